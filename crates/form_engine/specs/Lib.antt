@@ -1,0 +1,17 @@
+pub mod Answer
+pub mod Call
+pub mod Collecting
+pub mod Expanding
+pub mod Expression
+pub mod Fraction
+pub mod Joined
+pub mod Monomial
+pub mod Outcome
+pub mod Printing
+pub mod Program
+pub mod Reading
+pub mod Stop
+pub mod Term
+pub mod Text
+pub mod Totals
+pub mod Words

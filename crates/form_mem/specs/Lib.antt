@@ -1,0 +1,5 @@
+pub mod Calls
+pub mod Library
+pub mod Sink
+pub mod Store
+pub mod TextMap

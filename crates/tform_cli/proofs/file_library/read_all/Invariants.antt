@@ -1,0 +1,10 @@
+use Rattle.std.proofs.Common.{◌≤◌, vec_len}
+use Rattle.std.specs.Io.KnownBytes.{Consumes}
+use Rattle.tform_cli.proofs.file_library.read_all.Given as goal
+
+-- the text so far is what the reader gave
+abbrev pub invariant-loop : goal.invariant-loop
+invariant-loop g l = record {
+  within : vec_len l.text ≤ l.max;
+  given : Consumes (g.F.Read.remaining l.initial.reader) (g.F.Read.remaining l.reader) l.text.items;
+}

@@ -1,0 +1,101 @@
+ghost use Rattle.std.specs.Prelude.{◌≡◌, ◌≢◌, ◌<◌, ◌≤◌, None, Ok, Err, IfOk, IfSome, length};
+ghost use Rattle.std.specs.IoError.{error_kind};
+ghost use Rattle.form_outside.specs.Faults.{HasRisen};
+
+use form_outside::{Library, LibraryErr};
+use std::alloc::Global;
+use std::fs::Files;
+use std::io::{ErrorKind, Read};
+use std::{fs, io};
+
+/// The most bytes that are read at once.
+const PIECE: usize = 8192;
+
+/// The files, each under its path.
+#[derive(Drop)]
+pub struct FileLibrary<R: Files> {
+    files: R,
+    faults: u64,
+}
+
+impl<R: Files> FileLibrary<R> {
+    pub fn new(files: R) -> Self
+        ensures { result.faults ≡ 0 }
+    {
+        FileLibrary { files, faults: 0 }
+    }
+}
+
+impl<R: Files> Library for FileLibrary<R> {
+    // No clause can say what a file holds.
+    ghost texts = { λ _. None };
+
+    ghost faults = { λ library. library.faults };
+
+    /// None where there is no file at the path. A folder, and a file that can't be opened or read, is a fault.
+    fn fetch(&mut self, alloc: Global, name: &str, max: u64) -> Result<Option<Vec<u8>>, LibraryErr>
+        ensures within { IfOk result (λ found. IfSome found (λ text. length text.items ≤ max)) }
+        ensures failed { result ≡ Err LibraryErr.Failed → HasRisen self.old.faults self.new.faults }
+        ensures never_falls { self.old.faults ≤ self.new.faults }
+        ensures not_risen { result ≢ Err LibraryErr.Failed → self.new.faults ≡ self.old.faults }
+    {
+        let answer = read_file(&self.files, alloc, name, max);
+        if matches!(&answer, Err(LibraryErr::Failed)) {
+            self.faults = self.faults.saturating_add(1);
+        }
+        answer
+    }
+}
+
+/// The bytes of the file at a path: none where there is no such file, and `TooLong` where it has more than `max`.
+fn read_file<R: Files>(
+    files: &R,
+    alloc: Global,
+    path: &str,
+    max: u64,
+) -> Result<Option<Vec<u8>>, LibraryErr>
+    ensures { IfOk result (λ found. IfSome found (λ text. length text.items ≤ max)) }
+{
+    match fs::open(files, path) {
+        Ok(mut file) => Ok(Some(read_all(&mut file, alloc, max)?)),
+        Err(error) => unopened(&error),
+    }
+}
+
+/// The answer where a file can't be opened.
+fn unopened(error: &io::Error) -> Result<Option<Vec<u8>>, LibraryErr>
+    ensures missing { error_kind error.now ≡ ErrorKind.NotFound → result ≡ Ok None }
+    ensures failed { error_kind error.now ≢ ErrorKind.NotFound → result ≡ Err LibraryErr.Failed }
+{
+    if error.kind() == ErrorKind::NotFound {
+        Ok(None)
+    } else {
+        Err(LibraryErr::Failed)
+    }
+}
+
+/// All that a reader has left: `TooLong` where that is more than `max` bytes, of which it takes one more at most.
+pub fn read_all<F: Read>(reader: &mut F, alloc: Global, max: u64) -> Result<Vec<u8>, LibraryErr>
+    ensures within { IfOk result (λ text. length text.items ≤ max) }
+    ensures whole { IfOk result (λ text. IfSome (F.remaining reader.old) (λ bytes. text.items ≡ bytes)) }
+    ensures too_long { result ≡ Err LibraryErr.TooLong → IfSome (F.remaining reader.old) (λ bytes. max < length bytes) }
+{
+    let mut text = Vec::new(alloc);
+    let mut piece = [0; PIECE];
+    for _ in 0..u64::MAX {
+        let room = (max - text.len() as u64).min(PIECE as u64 - 1) as usize + 1;
+        let Ok(count) = reader.read(&mut piece[..room]) else {
+            return Err(LibraryErr::Failed);
+        };
+        if count == 0 {
+            return Ok(text);
+        }
+        if count as u64 > max - text.len() as u64 {
+            return Err(LibraryErr::TooLong);
+        }
+        if text.extend_from_slice(&piece[..count]).is_err() {
+            return Err(LibraryErr::Memory);
+        }
+    }
+    Err(LibraryErr::Failed)
+}

@@ -1,0 +1,130 @@
+ghost use Rattle.std.specs.Prelude.{◌≡◌, ◌≢◌, ◌<◌, ◌≤◌, [], false, Err, OnOk, OnErr, is_ok, vec_len, length, take};
+ghost use Rattle.std.specs.Io.KnownBytes.{Keeps, Appends};
+ghost use Rattle.form_outside.specs.Faults.{HasRisen};
+ghost use Rattle.form_outside.specs.Taken.{Takes};
+
+use form_outside::{Sink, SinkErr};
+use std::alloc::Global;
+use std::io::Write;
+
+/// How many bytes wait before they are written out.
+const ROOM: usize = 65536;
+
+/// A sink over a writer, as the standard output. Its bytes are written out in large pieces, the last at `finish`.
+#[derive(Drop)]
+pub struct OutSink<W: Write> {
+    out: W,
+    /// The bytes since the last piece. Those before `start` are written out, since a write failed after them.
+    waiting: Vec<u8>,
+    start: usize,
+    finished: bool,
+    faults: u64,
+    ghost in_range: { start ≤ vec_len waiting },
+}
+
+impl<W: Write> OutSink<W> {
+    ghost use Rattle.tform_cli.specs.OutSink.{taken_by};
+
+    pub fn new(alloc: Global, out: W) -> Self
+        ensures waiting { result.waiting.items ≡ [] }
+        ensures out { result.out ≡ out }
+        ensures open { result.finished ≡ false }
+        ensures faults { result.faults ≡ 0 }
+    {
+        OutSink {
+            out,
+            waiting: Vec::new(alloc),
+            start: 0,
+            finished: false,
+            faults: 0,
+        }
+    }
+
+    /// Writes out what waits. What a failed write leaves still waits.
+    fn write_out(&mut self) -> Result<(), SinkErr>
+        ensures taken { Keeps (taken_by self.old) (taken_by self.new) }
+        ensures written { OnOk result (self.new.waiting.items ≡ []) }
+        ensures finished { self.new.finished ≡ self.old.finished }
+        ensures failed { OnErr result (HasRisen self.old.faults self.new.faults) }
+        ensures never_falls { self.old.faults ≤ self.new.faults }
+        ensures not_risen { OnOk result (self.new.faults ≡ self.old.faults) }
+        ensures memory { result ≢ Err SinkErr.Memory }
+    {
+        self.start += write_front(&mut self.out, &self.waiting[self.start..]);
+        if self.start < self.waiting.len() {
+            self.faults = self.faults.saturating_add(1);
+            return Err(SinkErr::Failed);
+        }
+        self.start = 0;
+        self.waiting.clear();
+        Ok(())
+    }
+}
+
+impl<W: Write> Sink for OutSink<W> {
+    ghost use Rattle.tform_cli.specs.OutSink.{taken_by};
+
+    // What the writer holds and then what waits, where the writer tells it; the standard output doesn't.
+    ghost taken = { taken_by };
+
+    ghost is_finished = { λ sink. sink.finished };
+
+    ghost faults = { λ sink. sink.faults };
+
+    fn put(&mut self, alloc: Global, piece: &[u8]) -> Result<(), SinkErr>
+        ensures taken { Takes (taken_by self.old) piece.now (taken_by self.new) result }
+        ensures few_wait { OnOk result (vec_len self.new.waiting < ROOM) }
+        ensures open { self.new.finished ≡ false }
+        ensures failed { result ≡ Err SinkErr.Failed → HasRisen self.old.faults self.new.faults }
+        ensures not_risen { result ≢ Err SinkErr.Failed → self.new.faults ≡ self.old.faults }
+        ensures never_falls { self.old.faults ≤ self.new.faults }
+    {
+        let _ = alloc;
+        self.finished = false;
+        if self.waiting.extend_from_slice(piece).is_err() {
+            return Err(SinkErr::Memory);
+        }
+        if self.waiting.len() < ROOM {
+            return Ok(());
+        }
+        self.write_out()
+    }
+
+    fn finish(&mut self, alloc: Global) -> Result<(), SinkErr>
+        ensures taken { Takes (taken_by self.old) [] (taken_by self.new) result }
+        ensures none_waits { OnOk result (self.new.waiting.items ≡ []) }
+        ensures finished { self.new.finished ≡ is_ok result }
+        ensures failed { OnErr result (HasRisen self.old.faults self.new.faults) }
+        ensures not_risen { OnOk result (self.new.faults ≡ self.old.faults) }
+        ensures never_falls { self.old.faults ≤ self.new.faults }
+        ensures memory { result ≢ Err SinkErr.Memory }
+    {
+        let _ = alloc;
+        self.finished = false;
+        self.write_out()?;
+        if self.out.flush().is_err() {
+            self.faults = self.faults.saturating_add(1);
+            return Err(SinkErr::Failed);
+        }
+        self.finished = true;
+        Ok(())
+    }
+}
+
+/// Writes bytes out, and answers how many: fewer than all where a write failed or took none.
+fn write_front<W: Write>(out: &mut W, bytes: &[u8]) -> usize
+    ensures within { result ≤ length bytes.now }
+    ensures appended { Appends (W.contents out.old) (W.contents out.new) (take result bytes.now) }
+{
+    let mut written = 0;
+    while written < bytes.len() {
+        let Ok(count) = out.write(&bytes[written..]) else {
+            break;
+        };
+        if count == 0 {
+            break;
+        }
+        written += count;
+    }
+    written
+}

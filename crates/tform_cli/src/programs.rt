@@ -1,0 +1,177 @@
+//! Whole programs over a library and a sink in memory, against bytes and statuses worked out by hand.
+
+ghost use Rattle.std.specs.Prelude.{◌≡◌, IfOk};
+ghost use Rattle.form_mem.specs.Library.{library_faults};
+ghost use Rattle.form_mem.specs.Sink.{sink_faults};
+
+use crate::stores::fresh_stores;
+use form_engine::tform;
+use form_mem::{MemLibrary, MemSink, OpenGate};
+use std::alloc::{AllocError, Global};
+use std::sync::Wait;
+use std::test::Fail;
+use std::thread::Threads;
+
+const SQUARE: &str = "Symbols x,y;\nLocal F = (x+y)^2;\nPrint;\n.end\n";
+
+/// Which device fails at its first call.
+#[derive(Clone, Copy, PartialEq, Eq)]
+enum Failing {
+    Nothing,
+    Fetch,
+    Put,
+}
+
+/// What a call did.
+#[derive(Drop)]
+struct Answered {
+    code: u8,
+    bytes: Vec<u8>,
+    is_finished: bool,
+}
+
+/// A library that has the text `p.frm`.
+fn library_of(alloc: Global, text: &str, failing: Failing) -> Result<MemLibrary, AllocError>
+    ensures { IfOk result (λ library. library_faults library ≡ 0) }
+{
+    let mut library = MemLibrary::new(alloc);
+    library.insert("p.frm", text.as_bytes())?;
+    if failing == Failing::Fetch {
+        library.fail_at(1)?;
+    }
+    Ok(library)
+}
+
+/// A sink that has taken nothing.
+fn empty_sink(alloc: Global, failing: Failing) -> Result<MemSink, AllocError>
+    ensures { IfOk result (λ sink. sink_faults sink ≡ 0) }
+{
+    let mut sink = MemSink::new(alloc);
+    if failing == Failing::Put {
+        sink.fail_put_at(1)?;
+    }
+    Ok(sink)
+}
+
+/// The words of a command line.
+fn words_of(alloc: Global, texts: &[&str]) -> Result<Vec<String>, AllocError> {
+    let mut words = Vec::new(alloc);
+    for text in texts {
+        words.push(String::from_str(alloc, text)?)?;
+    }
+    Ok(words)
+}
+
+/// The call with these words over a library that has the text `p.frm`.
+fn answer_to<R: Threads + Wait>(
+    rt: &R,
+    alloc: Global,
+    words: &[&str],
+    text: &str,
+    failing: Failing,
+) -> Result<Answered, AllocError> {
+    let words = words_of(alloc, words)?;
+    let mut library = library_of(alloc, text, failing)?;
+    let mut out = empty_sink(alloc, failing)?;
+    let mut stores = fresh_stores(alloc)?;
+    let status = tform(
+        rt,
+        alloc,
+        &words,
+        &mut library,
+        &mut out,
+        &mut stores,
+        &OpenGate,
+    );
+    Ok(Answered {
+        code: status.code(),
+        bytes: out.bytes().to_vec(alloc)?,
+        is_finished: out.is_finished(),
+    })
+}
+
+/// Whether a text without faults around it gives these bytes and this code, and the sink is finished.
+fn gives<R: Threads + Wait>(
+    rt: &R,
+    alloc: Global,
+    text: &str,
+    bytes: &str,
+    code: u8,
+) -> Result<bool, AllocError> {
+    let answered = answer_to(rt, alloc, &["tform", "p.frm"], text, Failing::Nothing)?;
+    Ok(
+        answered.bytes.as_slice() == bytes.as_bytes()
+            && answered.code == code
+            && answered.is_finished,
+    )
+}
+
+#[test]
+fn a_square_prints(rt: HostRuntime) -> Result<(), Fail> {
+    let printed = "\n   F =\n      y^2 + 2*x*y + x^2;\n\n";
+    assert!(rt; gives(&rt, rt.alloc(), SQUARE, printed, 0)?);
+    Ok(())
+}
+
+#[test]
+fn a_letter_minus_itself_prints_zero(rt: HostRuntime) -> Result<(), Fail> {
+    let text = "Symbols x;\nLocal F = x - x;\nPrint;\n.end\n";
+    assert!(rt; gives(&rt, rt.alloc(), text, "\n   F = 0;\n\n", 0)?);
+    Ok(())
+}
+
+#[test]
+fn a_number_is_bad_syntax(rt: HostRuntime) -> Result<(), Fail> {
+    let text = "Symbols x;\nLocal F = 2*x;\nPrint;\n.end\n";
+    let line = "error: p.frm line 1: BadSyntax\n";
+    assert!(rt; gives(&rt, rt.alloc(), text, line, 3)?);
+    Ok(())
+}
+
+#[test]
+fn six_letters_to_the_ninth_are_too_many(rt: HostRuntime) -> Result<(), Fail> {
+    let text = "Symbols a,b,c,d,e,f;\nLocal F = (a+b+c+d+e+f)^9;\nPrint;\n.end\n";
+    let line = "error: module 1 expression F: ExpandLimit\n";
+    assert!(rt; gives(&rt, rt.alloc(), text, line, 4)?);
+    Ok(())
+}
+
+#[test]
+fn a_missing_text_is_named(rt: HostRuntime) -> Result<(), Fail> {
+    let alloc = rt.alloc();
+    let answered = answer_to(&rt, alloc, &["tform", "q.frm"], SQUARE, Failing::Nothing)?;
+    assert_eq!(rt;
+        answered.bytes.as_slice(),
+        b"error: missing q.frm\n".as_slice()
+    );
+    assert_eq!(rt; answered.code, 2);
+    Ok(())
+}
+
+#[test]
+fn no_file_is_usage(rt: HostRuntime) -> Result<(), Fail> {
+    let answered = answer_to(&rt, rt.alloc(), &["tform"], SQUARE, Failing::Nothing)?;
+    assert_eq!(rt; answered.bytes.as_slice(), b"error: usage\n".as_slice());
+    assert_eq!(rt; answered.code, 1);
+    Ok(())
+}
+
+#[test]
+fn a_failed_fetch_is_a_fault(rt: HostRuntime) -> Result<(), Fail> {
+    let alloc = rt.alloc();
+    let answered = answer_to(&rt, alloc, &["tform", "p.frm"], SQUARE, Failing::Fetch)?;
+    assert!(rt; answered.bytes.is_empty());
+    assert_eq!(rt; answered.code, 5);
+    Ok(())
+}
+
+#[test]
+fn a_failed_put_is_a_fault_behind_a_front(rt: HostRuntime) -> Result<(), Fail> {
+    let alloc = rt.alloc();
+    let answered = answer_to(&rt, alloc, &["tform", "p.frm"], SQUARE, Failing::Put)?;
+    let printed = b"\n   F =\n      y^2 + 2*x*y + x^2;\n\n".as_slice();
+    assert!(rt; printed.starts_with(answered.bytes.as_slice()));
+    assert!(rt; answered.bytes.len() < printed.len());
+    assert_eq!(rt; answered.code, 6);
+    Ok(())
+}
