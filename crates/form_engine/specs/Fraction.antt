@@ -2,7 +2,7 @@
 use Rattle.std.specs.Prelude.{ℕ, zero, suc, ◌*◌, ◌/◌, ◌%◌, ℤ, pos, negsuc, ◌+ℤ◌, ◌*ℤ◌, neg_ℤ, nat_abs, Bool, ◌==◌, ◌&&◌, nat_le, if◌then◌else◌, Option, Some, None}
 use Rattle.std.specs.Int.{is_negative}
 
--- a numerator with its sign over a denominator of at least 1, without a common divisor
+-- A numerator with its sign over a denominator. Those that arise are in lowest terms, over at least 1.
 pub record Fraction : Type 0 where
   pub numerator : ℤ
   pub denominator : ℕ

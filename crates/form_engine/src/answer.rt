@@ -1,4 +1,4 @@
-ghost use Rattle.std.specs.Prelude.{◌≡◌, ◌≤◌, Err};
+ghost use Rattle.std.specs.Prelude.{◌≡◌, ◌≢◌, ◌≤◌, true, Err};
 ghost use Rattle.form_outside.specs.Faults.{HasRisen};
 ghost use Rattle.form_outside.specs.Taken.{Takes};
 ghost use Rattle.form_engine.specs.Outcome.{refused};
@@ -25,7 +25,9 @@ impl Answer {
     pub fn write<O: Sink>(&self, alloc: Global, out: &mut O) -> Result<(), SinkErr>
         ensures taken { Takes (O.taken out.old) (outcome_of self.now).bytes (O.taken out.new) result }
         ensures failed { result ≡ Err SinkErr.Failed → HasRisen (O.faults out.old) (O.faults out.new) }
+        ensures not_risen { result ≢ Err SinkErr.Failed → O.faults out.new ≡ O.faults out.old }
         ensures never_falls { O.faults out.old ≤ O.faults out.new }
+        ensures unfinished { O.is_finished out.new ≡ true → O.is_finished out.old ≡ true }
     {
         match self {
             Answer::Printed(program, terms) => {
@@ -49,7 +51,9 @@ impl Answer {
 fn write_refusal<O: Sink>(alloc: Global, status: &Status, out: &mut O) -> Result<(), SinkErr>
     ensures taken { Takes (O.taken out.old) (refused status.now).bytes (O.taken out.new) result }
     ensures failed { result ≡ Err SinkErr.Failed → HasRisen (O.faults out.old) (O.faults out.new) }
+    ensures not_risen { result ≢ Err SinkErr.Failed → O.faults out.new ≡ O.faults out.old }
     ensures never_falls { O.faults out.old ≤ O.faults out.new }
+    ensures unfinished { O.is_finished out.new ≡ true → O.is_finished out.old ≡ true }
 {
     let line = format!(in alloc; "{status}\n")?;
     out.put(alloc, line.as_bytes())

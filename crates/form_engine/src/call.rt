@@ -1,4 +1,4 @@
-ghost use Rattle.std.specs.Prelude.{◌≡◌, ◌≢◌, ◌≤◌, ◌<◌, ◌⊎◌, ◌++◌, ℕ, List, length, map, Some, None, Ok, Err, All, IsSome, IsSomeAnd, IfOk, IfSome, OnOk, MatchResult, true};
+ghost use Rattle.std.specs.Prelude.{◌≡◌, ◌≢◌, ◌≤◌, ◌<◌, ◌⊎◌, ◌++◌, ℕ, List, length, map, Some, None, Ok, Err, All, IsSomeAnd, IfOk, IfSome, OnOk, OnErr, MatchResult, true};
 ghost use Rattle.form_base.specs.Status.{code_of};
 ghost use Rattle.form_base.specs.declared.cause.Cause.{Cause};
 ghost use Rattle.form_base.specs.declared.place.Place.{Place};
@@ -54,19 +54,23 @@ pub fn tform<R: Threads + Wait, L: Library, O: Sink, S: Store + Send, G: Gate + 
         (outcome : Outcome) → IsOutcome (bytes_of_words words.now) texts outcome →
         IsCarriedOut outcome taken (O.taken out.new) result ⊎ (result ≡ OutOfMemory))) }
 
-    // Whatever devices there are, faulty words are refused, and no others are.
+    // Whatever devices there are, faulty words are refused, without a look at the library, and no others are.
     ensures usage { result ≡ Usage → file_of (bytes_of_words words.now) ≡ None }
     ensures usage_wherever { file_of (bytes_of_words words.now) ≡ None →
         (result ≡ Usage) ⊎ ((result ≡ SinkFault) ⊎ (result ≡ OutOfMemory)) }
+    ensures untouched { file_of (bytes_of_words words.now) ≡ None → library.new ≡ library.old }
+
+    // A text that is missing or too long is the one that the words name.
+    ensures missing_file { (name : List ℕ) → result ≡ Missing name → file_of (bytes_of_words words.now) ≡ Some name }
+    ensures too_long_file { (name : List ℕ) → result ≡ TextTooLong name →
+        file_of (bytes_of_words words.now) ≡ Some name }
 
     // Where the library tells its texts, what is said of them is so, whatever fails.
     ensures missing { IfSome (L.texts library.old) (λ texts.
-        (name : List ℕ) → result ≡ Missing name →
-        (file_of (bytes_of_words words.now) ≡ Some name) × (text_of texts name ≡ None)) }
+        (name : List ℕ) → result ≡ Missing name → text_of texts name ≡ None) }
     ensures too_long { IfSome (L.texts library.old) (λ texts.
         (name : List ℕ) → result ≡ TextTooLong name →
-        (file_of (bytes_of_words words.now) ≡ Some name)
-        × IsSomeAnd (text_of texts name) (λ text. longest_text < length text)) }
+        IsSomeAnd (text_of texts name) (λ text. longest_text < length text)) }
     ensures refused_text { IfSome (L.texts library.old) (λ texts.
         (cause : Cause) (place : Place) → result ≡ RefusedText cause place →
         IsOutcome (bytes_of_words words.now) texts (refused (RefusedText cause place))) }
@@ -77,17 +81,20 @@ pub fn tform<R: Threads + Wait, L: Library, O: Sink, S: Store + Send, G: Gate + 
         (bytes : List ℕ)
         × IsOutcome (bytes_of_words words.now) texts (record { bytes = bytes; status = Done })) }
 
-    // A fault is told only of an object whose count rose in this call, and damage of none.
+    // A fault of library or sink is told exactly where its count rose in this call, and damage of nothing.
     ensures library_fault { result ≡ LibraryFault → L.faults library.old < L.faults library.new }
     ensures sink_fault { result ≡ SinkFault → O.faults out.old < O.faults out.new }
+    ensures library_unrisen { result ≢ LibraryFault → L.faults library.new ≡ L.faults library.old }
+    ensures sink_unrisen { result ≢ SinkFault → O.faults out.new ≡ O.faults out.old }
     ensures store_fault { (store : ℕ) → result ≡ StoreFault store →
         HasStoreRisen S.faults stores.old stores.new store }
     ensures never_damaged { (store run place kept found : ℕ) → result ≢ StoreDamaged store run place kept found }
 
-    // A call that wasn't stopped has finished the sink.
-    ensures finished { IsSome (O.taken out.old) → code_of result ≤ 4 → O.is_finished out.new ≡ true }
+    // A call that wasn't stopped has finished the sink, and one that was hasn't.
+    ensures finished { code_of result ≤ 4 → O.is_finished out.new ≡ true }
+    ensures unfinished { 4 < code_of result → O.is_finished out.new ≡ true → O.is_finished out.old ≡ true }
 
-    // The library is as it was, and so are the stores, since no run is made yet.
+    // The library's texts are as they were, and so are the stores, since no run is made yet.
     ensures same_texts { L.texts library.new ≡ L.texts library.old }
     ensures same_stores { stores.new ≡ stores.old }
 {
@@ -121,7 +128,15 @@ fn run<L: Library, O: Sink>(
         MatchResult result (λ status. status ≡ Usage) (λ stop. stop ≢ Stop.Library) }
     ensures library_fault { result ≡ Err Stop.Library → L.faults library.old < L.faults library.new }
     ensures sink_fault { result ≡ Err Stop.Sink → O.faults out.old < O.faults out.new }
-    ensures finished { OnOk result (IsSome (O.taken out.old) → O.is_finished out.new ≡ true) }
+    ensures untouched { file_of (bytes_of_words words.now) ≡ None → library.new ≡ library.old }
+    ensures missing_file { IfOk result (λ status. (name : List ℕ) → status ≡ Missing name →
+        file_of (bytes_of_words words.now) ≡ Some name) }
+    ensures too_long_file { IfOk result (λ status. (name : List ℕ) → status ≡ TextTooLong name →
+        file_of (bytes_of_words words.now) ≡ Some name) }
+    ensures library_unrisen { result ≢ Err Stop.Library → L.faults library.new ≡ L.faults library.old }
+    ensures sink_unrisen { result ≢ Err Stop.Sink → O.faults out.new ≡ O.faults out.old }
+    ensures finished { OnOk result (O.is_finished out.new ≡ true) }
+    ensures unfinished { OnErr result (O.is_finished out.new ≡ true → O.is_finished out.old ≡ true) }
     ensures same_texts { L.texts library.new ≡ L.texts library.old }
 {
     let answer = decide(alloc, words, library)?;

@@ -1,5 +1,5 @@
-ghost use Rattle.std.specs.Prelude.{◌≡◌, ◌≢◌, ◌≤◌, ◌↔◌, None, Ok, Err, IfOk, IfSome, string_bytes};
-ghost use Rattle.form_base.specs.declared.status.Status.TheVariants.{Usage};
+ghost use Rattle.std.specs.Prelude.{◌≡◌, ◌≢◌, ◌≤◌, ◌↔◌, ℕ, List, Some, None, Ok, Err, IfOk, IfSome, string_bytes};
+ghost use Rattle.form_base.specs.declared.status.Status.TheVariants.{Usage, Missing, TextTooLong};
 ghost use Rattle.form_base.specs.Status.{code_of};
 ghost use Rattle.form_outside.specs.Faults.{HasRisen};
 ghost use Rattle.form_engine.specs.Answer.{outcome_of};
@@ -28,8 +28,14 @@ pub fn decide<L: Library>(alloc: Global, words: &[String], library: &mut L) -> R
         (outcome_of answer).status ≡ Usage → command.file_of (bytes_of_words words.now) ≡ None) }
     ensures usage_wherever { command.file_of (bytes_of_words words.now) ≡ None →
         result ≡ Ok (Answer.Refused Usage) }
+    ensures untouched { command.file_of (bytes_of_words words.now) ≡ None → library.new ≡ library.old }
+    ensures missing { IfOk result (λ answer. (name : List ℕ) → (outcome_of answer).status ≡ Missing name →
+        command.file_of (bytes_of_words words.now) ≡ Some name) }
+    ensures too_long { IfOk result (λ answer. (name : List ℕ) → (outcome_of answer).status ≡ TextTooLong name →
+        command.file_of (bytes_of_words words.now) ≡ Some name) }
     ensures answered { IfOk result (λ answer. code_of (outcome_of answer).status ≤ 4) }
     ensures failed { result ≡ Err Stop.Library → HasRisen (L.faults library.old) (L.faults library.new) }
+    ensures not_risen { result ≢ Err Stop.Library → L.faults library.new ≡ L.faults library.old }
     ensures never_sink { result ≢ Err Stop.Sink }
     ensures never_falls { L.faults library.old ≤ L.faults library.new }
     ensures same { L.texts library.new ≡ L.texts library.old }
@@ -53,6 +59,8 @@ fn answer_to(alloc: Global, file: &str, text: &[u8]) -> Result<Answer, AllocErro
     ensures outcome { IfOk result (λ answer. IsTextOutcome file.now text.now (outcome_of answer)) }
     ensures answered { IfOk result (λ answer. code_of (outcome_of answer).status ≤ 4) }
     ensures no_usage { IfOk result (λ answer. (outcome_of answer).status ≢ Usage) }
+    ensures not_missing { IfOk result (λ answer. (name : List ℕ) → (outcome_of answer).status ≢ Missing name) }
+    ensures not_too_long { IfOk result (λ answer. (name : List ℕ) → (outcome_of answer).status ≢ TextTooLong name) }
 {
     let Some(program) = read_program(alloc, text)? else {
         let place = Place::Line(Name::new(alloc, file)?, 1);

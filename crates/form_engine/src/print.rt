@@ -1,4 +1,4 @@
-ghost use Rattle.std.specs.Prelude.{◌≡◌, ◌≤◌, ℕ, [], ◌∷◌, ◌++◌, Err, IfOk, OnOk, decimal, map, string_bytes};
+ghost use Rattle.std.specs.Prelude.{◌≡◌, ◌≢◌, ◌≤◌, true, ℕ, [], ◌∷◌, ◌++◌, Err, IfOk, OnOk, decimal, map, string_bytes};
 ghost use Rattle.form_outside.specs.Faults.{HasRisen};
 ghost use Rattle.form_outside.specs.Taken.{Takes};
 ghost use Rattle.form_engine.specs.Joined.{beginning, joined_behind, later_pieces, stands_after};
@@ -20,7 +20,9 @@ pub fn print_expression<O: Sink>(
 ) -> Result<(), SinkErr>
     ensures taken { Takes (O.taken out.old) (printed symbols.now name.now (map monomial_of terms.now)) (O.taken out.new) result }
     ensures failed { result ≡ Err SinkErr.Failed → HasRisen (O.faults out.old) (O.faults out.new) }
+    ensures not_risen { result ≢ Err SinkErr.Failed → O.faults out.new ≡ O.faults out.old }
     ensures never_falls { O.faults out.old ≤ O.faults out.new }
+    ensures unfinished { O.is_finished out.new ≡ true → O.is_finished out.old ≡ true }
 {
     let mut text = String::new(alloc);
     let Some((first, later)) = terms.split_first() else {
@@ -43,7 +45,9 @@ fn put_later_pieces<O: Sink>(
 ) -> Result<(), SinkErr>
     ensures taken { Takes (O.taken out.old) (later_pieces symbols.now (map monomial_of terms.now)) (O.taken out.new) result }
     ensures failed { result ≡ Err SinkErr.Failed → HasRisen (O.faults out.old) (O.faults out.new) }
+    ensures not_risen { result ≢ Err SinkErr.Failed → O.faults out.new ≡ O.faults out.old }
     ensures never_falls { O.faults out.old ≤ O.faults out.new }
+    ensures unfinished { O.is_finished out.new ≡ true → O.is_finished out.old ≡ true }
 {
     for term in terms {
         text.clear();
@@ -172,24 +176,25 @@ mod tests {
     #[derive(Drop)]
     struct Page {
         bytes: Vec<u8>,
+        is_finished: bool,
     }
 
     impl Sink for Page {
-        ghost use Rattle.std.specs.Prelude.{None, false};
+        ghost use Rattle.std.specs.Prelude.{None};
 
         ghost taken = { λ _. None };
 
-        ghost is_finished = { λ _. false };
+        ghost is_finished = { λ page. page.is_finished };
 
         ghost faults = { λ _. 0 };
 
         fn put(&mut self, _alloc: Global, piece: &[u8]) -> Result<(), SinkErr> {
-            self.bytes
-                .extend_from_slice(piece)
-                .map_err(|_| SinkErr::Memory)
+            self.is_finished = false;
+            Ok(self.bytes.extend_from_slice(piece)?)
         }
 
         fn finish(&mut self, _alloc: Global) -> Result<(), SinkErr> {
+            self.is_finished = true;
             Ok(())
         }
     }
@@ -213,6 +218,7 @@ mod tests {
         }
         let mut page = Page {
             bytes: Vec::new(alloc),
+            is_finished: false,
         };
         match print_expression(alloc, &mut page, &symbols, &name, &list) {
             Ok(()) => Ok(page.bytes),

@@ -1,4 +1,4 @@
-ghost use Rattle.std.specs.Prelude.{◌≡◌, ◌≢◌, ◌↔◌, ◌≤◌, ◌/◌, Bool, false, [], ◌∷◌, ◌++◌, Some, Err, IsTrue, OnOk, OnErr, IsOk, is_ok, true, length};
+ghost use Rattle.std.specs.Prelude.{◌≡◌, ◌≢◌, ◌↔◌, ◌≤◌, ◌/◌, ◌⊎◌, Bool, false, [], ◌∷◌, ◌++◌, Some, Err, IsTrue, OnOk, OnErr, IsOk, is_ok, true, length, take};
 ghost use Rattle.form_outside.specs.Taken.{Takes};
 ghost use Rattle.form_mem.specs.Calls.{is_listed, one_more};
 ghost use Rattle.form_mem.specs.Sink.{bytes_of, ended, failing_puts, put_count, failing_finishes, finish_count, sink_faults, sure_bytes_of, surely_ended};
@@ -88,6 +88,8 @@ impl Sink for MemSink {
         ensures taken { Takes (Some (bytes_of self.old)) piece.now (Some (bytes_of self.new)) result }
         ensures open { ended self.new ≡ false }
         ensures fails { (result ≡ Err SinkErr.Failed) ↔ IsTrue (is_listed (failing_puts self.old) (put_count self.new)) }
+        ensures half { result ≡ Err SinkErr.Failed → (bytes_of self.new ≡ bytes_of self.old ++ take (length piece.now / 2) piece.now) ⊎ (bytes_of self.new ≡ bytes_of self.old) }
+        ensures memory { result ≡ Err SinkErr.Memory → bytes_of self.new ≡ bytes_of self.old }
         ensures risen { result ≡ Err SinkErr.Failed → sink_faults self.new ≡ one_more (sink_faults self.old) }
         ensures not_risen { result ≢ Err SinkErr.Failed → sink_faults self.new ≡ sink_faults self.old }
         ensures never_falls { sink_faults self.old ≤ sink_faults self.new }
@@ -197,8 +199,6 @@ fn append(taken: &mut Vec<u8>, piece: &[u8]) -> Result<(), SinkErr>
     ensures err { OnErr result (taken.new.items ≡ taken.old.items) }
     ensures sure { result ≢ Err SinkErr.Failed }
 {
-    match taken.extend_from_slice(piece) {
-        Ok(()) => Ok(()),
-        Err(_) => Err(SinkErr::Memory),
-    }
+    taken.extend_from_slice(piece)?;
+    Ok(())
 }

@@ -36,10 +36,8 @@ impl Store for MemStore {
         ensures sure { result ≢ Err StoreErr.Failed }
     {
         let run = self.runs.len() as u64;
-        match self.runs.push(Some(Vec::new(alloc))) {
-            Ok(()) => Ok(run),
-            Err(_) => Err(StoreErr::Memory),
-        }
+        self.runs.push(Some(Vec::new(alloc)))?;
+        Ok(run)
     }
 
     fn append(&mut self, alloc: Global, run: u64, bytes: &[u8]) -> Result<(), StoreErr>

@@ -51,9 +51,6 @@ impl TextMap {
         if text.len() as u64 > max {
             return Err(LibraryErr::TooLong);
         }
-        match Vec::from_slice(alloc, text.as_slice()) {
-            Ok(copy) => Ok(Some(copy)),
-            Err(_) => Err(LibraryErr::Memory),
-        }
+        Ok(Some(Vec::from_slice(alloc, text.as_slice())?))
     }
 }

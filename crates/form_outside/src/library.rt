@@ -1,4 +1,4 @@
-ghost use Rattle.std.specs.Prelude.{◌≡◌, ℕ, ◌≤◌, Option, length, IfOk, IfSome};
+ghost use Rattle.std.specs.Prelude.{◌≡◌, ◌≢◌, ℕ, ◌≤◌, Option, length, IfOk, IfSome};
 ghost use Rattle.form_outside.specs.Texts.{Texts, text_of, IsFetched};
 ghost use Rattle.form_outside.specs.Faults.{HasRisen};
 
@@ -51,5 +51,6 @@ pub trait Library {
         ensures within { IfOk result (λ found. IfSome found (λ text. length text.items ≤ max)) }
         ensures same { texts self.new ≡ texts self.old }
         ensures failed { result ≡ Err LibraryErr.Failed → HasRisen (faults self.old) (faults self.new) }
+        ensures not_risen { result ≢ Err LibraryErr.Failed → faults self.new ≡ faults self.old }
         ensures never_falls { faults self.old ≤ faults self.new };
 }

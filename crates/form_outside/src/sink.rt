@@ -1,4 +1,4 @@
-ghost use Rattle.std.specs.Prelude.{◌≡◌, ℕ, ◌≤◌, Bool, true, false, List, [], Option, IsSome, OnOk, OnErr};
+ghost use Rattle.std.specs.Prelude.{◌≡◌, ◌≢◌, ℕ, ◌≤◌, Bool, false, List, [], Option, is_ok};
 ghost use Rattle.form_outside.specs.Taken.{Takes};
 ghost use Rattle.form_outside.specs.Faults.{HasRisen};
 
@@ -40,7 +40,7 @@ pub trait Sink {
     /// The bytes taken, where it tells them.
     ghost taken: { Self → Option (List ℕ) };
 
-    /// Whether its last call was a `finish` that answered Ok. It says nothing where the bytes aren't told.
+    /// Whether its last call was a `finish` that answered Ok. Always told.
     ghost is_finished: { Self → Bool };
 
     /// How often it has failed.
@@ -49,15 +49,16 @@ pub trait Sink {
     /// Takes the whole piece, or at an `Err` a front of it.
     fn put(&mut self, alloc: Global, piece: &[u8]) -> Result<(), SinkErr>
         ensures taken { Takes (taken self.old) piece.now (taken self.new) result }
-        ensures open { IsSome (taken self.old) → is_finished self.new ≡ false }
+        ensures open { is_finished self.new ≡ false }
         ensures failed { result ≡ Err SinkErr.Failed → HasRisen (faults self.old) (faults self.new) }
+        ensures not_risen { result ≢ Err SinkErr.Failed → faults self.new ≡ faults self.old }
         ensures never_falls { faults self.old ≤ faults self.new };
 
     /// Sees to it that what was taken is where it belongs. Takes nothing.
     fn finish(&mut self, alloc: Global) -> Result<(), SinkErr>
         ensures taken { Takes (taken self.old) [] (taken self.new) result }
-        ensures finished { OnOk result (IsSome (taken self.old) → is_finished self.new ≡ true) }
-        ensures unfinished { OnErr result (IsSome (taken self.old) → is_finished self.new ≡ false) }
+        ensures finished { is_finished self.new ≡ is_ok result }
         ensures failed { result ≡ Err SinkErr.Failed → HasRisen (faults self.old) (faults self.new) }
+        ensures not_risen { result ≢ Err SinkErr.Failed → faults self.new ≡ faults self.old }
         ensures never_falls { faults self.old ≤ faults self.new };
 }

@@ -1,4 +1,4 @@
-ghost use Rattle.std.specs.Prelude.{◌≡◌, ℕ, ◌+◌, ◌≤◌, ◌<◌, ◌^◌, List, [], ◌∷◌, ◌++◌, Option, Some, None, length, map, option_map, slice_set, IfOk, IfSome, OnOk, OnErr};
+ghost use Rattle.std.specs.Prelude.{◌≡◌, ◌≢◌, ℕ, ◌+◌, ◌≤◌, ◌<◌, ◌^◌, List, [], ◌∷◌, ◌++◌, Option, Some, None, length, map, option_map, slice_set, IfOk, IfSome, OnOk, OnErr};
 ghost use Rattle.form_outside.specs.Runs.{IsLive, length_of, Contents, KeepsOthers, Appended, IsRead};
 ghost use Rattle.form_outside.specs.Faults.{HasRisen};
 
@@ -53,9 +53,10 @@ pub trait Store {
         ensures empty { OnOk result (contents self.new ≡ option_map (λ runs. runs ++ Some [] ∷ []) (contents self.old)) }
         ensures err { OnErr result ((lengths self.new ≡ lengths self.old) × (contents self.new ≡ contents self.old)) }
         ensures failed { result ≡ Err StoreErr.Failed → HasRisen (faults self.old) (faults self.new) }
+        ensures not_risen { result ≢ Err StoreErr.Failed → faults self.new ≡ faults self.old }
         ensures never_falls { faults self.old ≤ faults self.new };
 
-    /// Puts bytes at a run's end. After an `Err` the run isn't used again, but may be removed.
+    /// Puts bytes at a run's end. What the run has after an `Err` isn't told: the caller only removes it then.
     fn append(&mut self, alloc: Global, run: u64, bytes: &[u8]) -> Result<(), StoreErr>
         requires { IsLive (lengths self.old) run }
         ensures longer { OnOk result (lengths self.new ≡ slice_set (lengths self.old) run (Some (length_of (lengths self.old) run + length bytes.now))) }
@@ -63,6 +64,7 @@ pub trait Store {
         ensures appended { OnOk result (contents self.new ≡ option_map (Appended run bytes.now) (contents self.old)) }
         ensures err { OnErr result (KeepsOthers (lengths self.old) (contents self.old) run (lengths self.new) (contents self.new)) }
         ensures failed { result ≡ Err StoreErr.Failed → HasRisen (faults self.old) (faults self.new) }
+        ensures not_risen { result ≢ Err StoreErr.Failed → faults self.new ≡ faults self.old }
         ensures never_falls { faults self.old ≤ faults self.new };
 
     /// Reads the bytes from `at` on into the front of `out`, as many as fit, and answers how many.
@@ -73,6 +75,7 @@ pub trait Store {
         ensures read { IfOk result (λ n. IfSome (contents self.old) (λ runs. IsRead runs run at n out.new)) }
         ensures same { (lengths self.new ≡ lengths self.old) × (contents self.new ≡ contents self.old) }
         ensures failed { result ≡ Err StoreErr.Failed → HasRisen (faults self.old) (faults self.new) }
+        ensures not_risen { result ≢ Err StoreErr.Failed → faults self.new ≡ faults self.old }
         ensures never_falls { faults self.old ≤ faults self.new };
 
     /// Removes a run.
@@ -82,5 +85,6 @@ pub trait Store {
         ensures gone { OnOk result (contents self.new ≡ option_map (λ runs. slice_set runs run None) (contents self.old)) }
         ensures err { OnErr result ((lengths self.new ≡ lengths self.old) × (contents self.new ≡ contents self.old)) }
         ensures failed { result ≡ Err StoreErr.Failed → HasRisen (faults self.old) (faults self.new) }
+        ensures not_risen { result ≢ Err StoreErr.Failed → faults self.new ≡ faults self.old }
         ensures never_falls { faults self.old ≤ faults self.new };
 }

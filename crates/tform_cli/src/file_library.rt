@@ -1,4 +1,4 @@
-ghost use Rattle.std.specs.Prelude.{◌≡◌, ◌≢◌, ◌<◌, ◌≤◌, None, Ok, Err, IfOk, IfSome, length};
+ghost use Rattle.std.specs.Prelude.{◌≡◌, ◌≢◌, ◌<◌, ◌≤◌, None, Ok, Err, IfOk, IfErr, IfSome, IsSomeAnd, length};
 ghost use Rattle.std.specs.IoError.{error_kind};
 ghost use Rattle.form_outside.specs.Faults.{HasRisen};
 
@@ -56,21 +56,25 @@ fn read_file<R: Files>(
 ) -> Result<Option<Vec<u8>>, LibraryErr>
     ensures { IfOk result (λ found. IfSome found (λ text. length text.items ≤ max)) }
 {
-    match fs::open(files, path) {
-        Ok(mut file) => Ok(Some(read_all(&mut file, alloc, max)?)),
-        Err(error) => unopened(&error),
-    }
+    read_opened(fs::open(files, path), alloc, max)
 }
 
-/// The answer where a file can't be opened.
-fn unopened(error: &io::Error) -> Result<Option<Vec<u8>>, LibraryErr>
-    ensures missing { error_kind error.now ≡ ErrorKind.NotFound → result ≡ Ok None }
-    ensures failed { error_kind error.now ≢ ErrorKind.NotFound → result ≡ Err LibraryErr.Failed }
+/// The bytes of what opening a file gave: none where there is no file, and a fault where it can't be opened.
+fn read_opened<F: Read + Drop>(
+    opened: io::Result<F>,
+    alloc: Global,
+    max: u64,
+) -> Result<Option<Vec<u8>>, LibraryErr>
+    ensures missing { IfErr opened (λ error. error_kind error ≡ ErrorKind.NotFound → result ≡ Ok None) }
+    ensures unopened { IfErr opened (λ error. error_kind error ≢ ErrorKind.NotFound → result ≡ Err LibraryErr.Failed) }
+    ensures whole { IfOk opened (λ file. IfOk result (λ found. IsSomeAnd found (λ text. IfSome (F.remaining file) (λ bytes. text.items ≡ bytes)))) }
+    ensures too_long { IfOk opened (λ file. result ≡ Err LibraryErr.TooLong → IfSome (F.remaining file) (λ bytes. max < length bytes)) }
+    ensures within { IfOk result (λ found. IfSome found (λ text. length text.items ≤ max)) }
 {
-    if error.kind() == ErrorKind::NotFound {
-        Ok(None)
-    } else {
-        Err(LibraryErr::Failed)
+    match opened {
+        Ok(mut file) => Ok(Some(read_all(&mut file, alloc, max)?)),
+        Err(error) if error.kind() == ErrorKind::NotFound => Ok(None),
+        Err(_) => Err(LibraryErr::Failed),
     }
 }
 
@@ -93,9 +97,7 @@ pub fn read_all<F: Read>(reader: &mut F, alloc: Global, max: u64) -> Result<Vec<
         if count as u64 > max - text.len() as u64 {
             return Err(LibraryErr::TooLong);
         }
-        if text.extend_from_slice(&piece[..count]).is_err() {
-            return Err(LibraryErr::Memory);
-        }
+        text.extend_from_slice(&piece[..count])?;
     }
     Err(LibraryErr::Failed)
 }

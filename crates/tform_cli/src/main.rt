@@ -1,17 +1,19 @@
 //! The command `tform`: its library is the files, and its sink is the standard output.
 #![tactic(auto)]
 
+ghost use Rattle.std.specs.Prelude.{◌≡◌, ◌≢◌, [], IsErr, IsOkAnd};
+ghost use Rattle.std.specs.IoError.{error_kind};
+
+mod command;
 mod file_library;
 mod out_sink;
 mod stores;
 
+use crate::command::run_command;
 use crate::file_library::FileLibrary;
 use crate::out_sink::OutSink;
-use crate::stores::fresh_stores;
 use form_base::Status;
-use form_engine::tform;
-use form_mem::OpenGate;
-use std::alloc::AllocError;
+use std::alloc::{AllocError, Global};
 use std::io::ErrorKind;
 use std::process::ExitCode;
 use std::rt::{Env, Files};
@@ -36,25 +38,26 @@ fn call<R: AllocGlobal + Clone + Drop + Env + Files + Print + Threads + Wait>(
     let words = words(rt)?;
     let mut library = FileLibrary::new(rt.clone()?);
     let mut out = OutSink::new(alloc, io::writer(rt));
-    let mut stores = fresh_stores(alloc)?;
-    Ok(tform(
-        rt,
-        alloc,
-        &words,
-        &mut library,
-        &mut out,
-        &mut stores,
-        &OpenGate,
-    ))
+    run_command(rt, alloc, &words, &mut library, &mut out)
 }
 
 /// The words of the command line. Where one isn't UTF-8 there are none, which is no command line either.
 fn words(rt: &(impl AllocGlobal + Env)) -> Result<Vec<String>, AllocError> {
     match env::args(rt) {
         Ok(words) => words.collect(rt.alloc()),
-        Err(error) if error.kind() == ErrorKind::OutOfMemory => Err(AllocError),
-        Err(_) => Ok(Vec::new(rt.alloc())),
+        Err(error) => no_words(rt.alloc(), &error),
     }
+}
+
+/// The answer where the words can't be told: none, or an error where memory lacks.
+fn no_words(alloc: Global, error: &io::Error) -> Result<Vec<String>, AllocError>
+    ensures memory { error_kind error.now ≡ ErrorKind.OutOfMemory → IsErr result }
+    ensures none { error_kind error.now ≢ ErrorKind.OutOfMemory → IsOkAnd result (λ words. words.items ≡ []) }
+{
+    if error.kind() == ErrorKind::OutOfMemory {
+        return Err(AllocError);
+    }
+    Ok(Vec::new(alloc))
 }
 
 #[cfg(test)]

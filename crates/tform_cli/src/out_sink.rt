@@ -81,9 +81,7 @@ impl<W: Write> Sink for OutSink<W> {
     {
         let _ = alloc;
         self.finished = false;
-        if self.waiting.extend_from_slice(piece).is_err() {
-            return Err(SinkErr::Memory);
-        }
+        self.waiting.extend_from_slice(piece)?;
         if self.waiting.len() < ROOM {
             return Ok(());
         }

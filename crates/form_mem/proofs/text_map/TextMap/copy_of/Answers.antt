@@ -15,10 +15,10 @@ returns-then-len-max-clause-fetched c =
     = text_of_found c.args.self.now.entries c.args.name.now c.get.result c.get.ensures.value ∙ ap (λ found. option_map (λ v. v.items) (option_copied found)) c.in-Some.is in
     rw found (grind arith)
 
-pub returns-in-Ok-clause-fetched : goal.returns-in-Ok-clause-fetched
-returns-in-Ok-clause-fetched c =
+pub returns-clause-fetched : goal.returns-clause-fetched
+returns-clause-fetched c =
     let found : text_of (kept_in c.args.self.now) c.args.name.now ≡ Some c.in-Some.text.now.items
     = text_of_found c.args.self.now.entries c.args.name.now c.get.result c.get.ensures.value ∙ ap (λ found. option_map (λ v. v.items) (option_copied found)) c.in-Some.is in
-    let same = sym (c.in-Ok.ensures.items ∙ c.as_slice.ensures.value) in
+    let same = sym (c.in_ok-from_slice.ensures.items ∙ c.as_slice.ensures.value) in
     let within : length c.in-Some.text.now.items ≤ c.args.max = grind arith in
     (found ∙ ap Some same, subst (λ (bytes : List ℕ). length bytes ≤ c.args.max) same within)

@@ -1,4 +1,0 @@
-use Rattle.tform_cli.proofs.programs.answer_to.Goals as goal
-
-pub tform-status-requires-clause-no_live_run : goal.tform-status-requires-clause-no_live_run
-tform-status-requires-clause-no_live_run g c κs within = rw c.deref_mut.ensures.value c.in_ok-stores.ensures.empty
