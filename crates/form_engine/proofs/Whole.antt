@@ -1,15 +1,11 @@
 -- Arithmetic of fractions at whole numbers.
 use Rattle.std.proofs.Common.{◌≡◌, ℤ, pos, negsuc, ◌+ℤ◌, ◌*ℤ◌, nat_abs, ◌≤◌, true, Some, None, if◌then◌else◌, refl, arith}
-use Rattle.form_engine.specs.Fraction.{whole, reduced, multiply, add, is_in_range, largest}
+use Rattle.form_engine.specs.Fraction.{whole, reduced, add, is_in_range, largest}
 
 -- over 1 a number is in lowest terms
 pub reduced_whole : (n : ℤ) → reduced n 1 ≡ whole n
 reduced_whole (pos n) = grind arith
 reduced_whole (negsuc n) = grind arith
-
--- the product of two whole numbers is their product
-pub multiply_whole : (a b : ℤ) → multiply (whole a) (whole b) ≡ whole (a *ℤ b)
-multiply_whole a b = reduced_whole (a *ℤ b)
 
 times_one : (a : ℤ) → a *ℤ pos 1 ≡ a
 times_one (pos n) = grind arith

@@ -1,10 +1,9 @@
 -- Bytes put into a sink, piece after piece.
-use Rattle.std.proofs.Common.{◌≡◌, ℕ, ◌+◌, ◌≤◌, min, List, [], ◌++◌, length, take, Option, Some, None, Result, Ok, Err, sym, ap, ◌∙◌, append_assoc, inl, inr, ⊎_elim, arith}
+use Rattle.std.proofs.Common.{◌≡◌, ℕ, ◌+◌, ◌≤◌, min, List, [], ◌++◌, length, take, Option, Some, None, Result, Ok, Err, sym, ap, ◌∙◌, append_assoc, arith}
 use Rattle.std.specs.Prelude.{⊤}
 use Rattle.std.specs.Result.{IsErr}
 use Rattle.std.proofs.lemmas.List.{append-nil, take-append-le, take_min}
 use Rattle.std.proofs.Math.Seq.{take-append-add}
-use Rattle.form_outside.specs.Faults.{HasRisen}
 use Rattle.form_outside.specs.Taken.{Takes}
 
 -- a piece that was taken whole, and then another, of which a front may be missing
@@ -34,10 +33,6 @@ Takes_nothing (Some old) p error = (0, sym (ap Some (append-nil old)))
 pub Takes_empty : (E : Type 0) (a : Option (List ℕ)) (done : ⊤) → Takes {E = E} a [] a (Ok done)
 Takes_empty E None done = tt
 Takes_empty E (Some old) done = sym (ap Some (append-nil old))
-
--- a count that rose after it had not fallen
-pub HasRisen_later : (old mid new : ℕ) → old ≤ mid → HasRisen mid new → HasRisen old new
-HasRisen_later old mid new stays rose = ⊎_elim (λ less. inl (omega arith)) inr rose
 
 -- pieces that were taken whole, and an error before the next one
 pub Takes_stop : {E : Type 0} → (a b : Option (List ℕ)) (p q whole : List ℕ) (done : ⊤) (r : Result ⊤ E) → Takes {E = E} a p b (Ok done) → whole ≡ p ++ q → IsErr r → Takes a whole b r

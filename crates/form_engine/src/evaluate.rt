@@ -42,7 +42,8 @@ impl<T: Drop> From<AllocFailed<T>> for RunError {
 /// The collected list of a program's expression, or the cause of its refusal.
 pub fn evaluate(alloc: Global, program: &Program) -> Result<Vec<Monomial>, RunError>
     ensures terms { IfOk result (λ terms. result_of (listing program.now) ≡ Ok (map monomial_of terms.items)) }
-    ensures refused { (cause : Cause) → result ≡ Err (RunError.Refused cause) → result_of (listing program.now) ≡ Err cause }
+    ensures refused { (cause : Cause) → result ≡ Err (RunError.Refused cause) →
+        result_of (listing program.now) ≡ Err cause }
 {
     let factors = program.power.unwrap_or(1);
     let limit = Settings::default().max_expand;

@@ -26,7 +26,8 @@ pub fn exceeds(letters: usize, factors: u32, limit: u64) -> bool
 fn raise(exponents: &mut [i32], position: usize) -> i32
     requires within { position < length exponents.old }
     requires room { (slice_index_or exponents.old position (pos 0) +ℤ pos 1) <ℤ pos (2 ^ 31) }
-    ensures raised { exponents.new ≡ slice_set exponents.old position (slice_index_or exponents.old position (pos 0) +ℤ pos 1) }
+    ensures raised { exponents.new
+        ≡ slice_set exponents.old position (slice_index_or exponents.old position (pos 0) +ℤ pos 1) }
     ensures before { result ≡ slice_index_or exponents.old position (pos 0) }
 {
     let exponent = exponents[position];
@@ -47,10 +48,13 @@ pub fn expand(
     requires room { All (λ exponent. (exponent +ℤ pos factors) <ℤ pos (2 ^ 31)) exponents.old }
     ensures lowered { OnOk result (exponents.new ≡ exponents.old) }
     ensures added { OnOk result ((list : List Spelled) → IsTotalOf totals.old list →
-        IsTotalOf totals.new (list ++ expanded (map (summand_of (length exponents.old)) sum.now) factors (with_sign is_minus exponents.old))) }
+        IsTotalOf totals.new (list
+        ++ expanded (map (summand_of (length exponents.old)) sum.now) factors (with_sign is_minus exponents.old))) }
     ensures overflow { (cause : Cause) → result ≡ Err (RunError.Refused cause) → (cause ≡ Overflow)
         × ((list rest : List Spelled) → IsTotalOf totals.old list →
-        collected (list ++ (expanded (map (summand_of (length exponents.old)) sum.now) factors (with_sign is_minus exponents.old) ++ rest)) ≡ None) }
+        collected (list
+        ++ (expanded (map (summand_of (length exponents.old)) sum.now) factors (with_sign is_minus exponents.old)
+        ++ rest)) ≡ None) }
 {
     if factors == 0 {
         return totals.add(exponents, Coefficient::sign(is_minus));

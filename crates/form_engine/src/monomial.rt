@@ -33,14 +33,6 @@ impl Coefficient {
         Some(Coefficient { numerator })
     }
 
-    pub fn negated(self) -> Self
-        ensures { whole result.numerator ≡ negate (whole self.numerator) }
-    {
-        Coefficient {
-            numerator: -self.numerator,
-        }
-    }
-
     pub fn is_zero(self) -> bool
         ensures { result ≡ fraction.is_zero (whole self.numerator) }
     {

@@ -18,7 +18,8 @@ pub fn print_expression<O: Sink>(
     name: &Name,
     terms: &[Monomial],
 ) -> Result<(), SinkErr>
-    ensures taken { Takes (O.taken out.old) (printed symbols.now name.now (map monomial_of terms.now)) (O.taken out.new) result }
+    ensures taken { Takes (O.taken out.old)
+        (printed symbols.now name.now (map monomial_of terms.now)) (O.taken out.new) result }
     ensures failed { result ≡ Err SinkErr.Failed → HasRisen (O.faults out.old) (O.faults out.new) }
     ensures not_risen { result ≢ Err SinkErr.Failed → O.faults out.new ≡ O.faults out.old }
     ensures never_falls { O.faults out.old ≤ O.faults out.new }
@@ -73,7 +74,8 @@ fn push_beginning(
     name: &Name,
     first: &Monomial,
 ) -> Result<(), AllocError>
-    ensures { OnOk result (string_bytes text.new ≡ string_bytes text.old ++ beginning symbols.now name.now (monomial_of first.now)) }
+    ensures { OnOk result (string_bytes text.new
+        ≡ string_bytes text.old ++ beginning symbols.now name.now (monomial_of first.now)) }
 {
     text.push_str("\n   ")?;
     text.push_str(name.as_str())?;
@@ -127,7 +129,8 @@ fn push_factors(
     exponents: &[i32],
     stands_before: bool,
 ) -> Result<bool, AllocError>
-    ensures bytes { OnOk result (string_bytes text.new ≡ string_bytes text.old ++ joined_behind 42 stands_before (factor_texts symbols.now exponents.now)) }
+    ensures bytes { OnOk result (string_bytes text.new
+        ≡ string_bytes text.old ++ joined_behind 42 stands_before (factor_texts symbols.now exponents.now)) }
     ensures stands { IfOk result (λ stands. stands ≡ stands_after stands_before (factor_texts symbols.now exponents.now)) }
 {
     let mut stands = stands_before;
@@ -147,7 +150,8 @@ fn push_factor(
     exponent: i32,
     stands_before: bool,
 ) -> Result<(), AllocError>
-    ensures { OnOk result (string_bytes text.new ≡ string_bytes text.old ++ joined_behind 42 stands_before (power_text symbol.now exponent ∷ [])) }
+    ensures { OnOk result (string_bytes text.new
+        ≡ string_bytes text.old ++ joined_behind 42 stands_before (power_text symbol.now exponent ∷ [])) }
 {
     if stands_before {
         text.push('*')?;

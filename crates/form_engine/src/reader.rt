@@ -280,7 +280,8 @@ fn program(alloc: Global, parts: Parts) -> Result<Program, AllocError>
 
 /// The program of a text, none where the text isn't one.
 pub fn read_program(alloc: Global, text: &[u8]) -> Result<Option<Program>, AllocError>
-    ensures found { IfOk result (λ found. IfSome found (λ kept. (program : Spelled) × IsProgram text.now program × StandsFor kept program)) }
+    ensures found { IfOk result (λ found. IfSome found (λ kept.
+        (program : Spelled) × IsProgram text.now program × StandsFor kept program)) }
     ensures none { IfOk result (λ found. IfNone found ((program : Spelled) → IsProgram text.now program → ⊥)) }
 {
     match read_parts(alloc, text) {

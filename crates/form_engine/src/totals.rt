@@ -53,7 +53,8 @@ impl Totals {
 
     /// The terms with their totals, without those of total 0.
     pub fn into_terms(self) -> Result<Vec<Monomial>, AllocError>
-        ensures { IfOk result (λ terms. (list : List Spelled) → IsTotalOf self list → collected list ≡ Some (map monomial_of terms.items)) }
+        ensures { IfOk result (λ terms. (list : List Spelled) → IsTotalOf self list →
+            collected list ≡ Some (map monomial_of terms.items)) }
     {
         let mut terms = Vec::new(self.alloc);
         for (exponents, coefficient) in self.sums {
@@ -97,7 +98,12 @@ mod tests {
         };
         let mut totals = Totals::new(rt.alloc());
         totals.add(&[1], largest)?;
-        totals.add(&[2], largest.negated())?;
+        totals.add(
+            &[2],
+            Coefficient {
+                numerator: -i128::MAX,
+            },
+        )?;
         assert!(rt;
             matches!(
                 &totals.add(&[1], Coefficient::sign(false)),

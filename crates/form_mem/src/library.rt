@@ -66,8 +66,10 @@ impl Library for MemLibrary {
         ensures fetched { IsFetched (text_of (held self.old) name.now) max result }
         ensures within { IfOk result (λ found. IfSome found (λ text. length text.items ≤ max)) }
         ensures same { held self.new ≡ held self.old }
-        ensures fails { (result ≡ Err LibraryErr.Failed) ↔ IsTrue (is_listed (failing_fetches self.old) (fetch_count self.new)) }
-        ensures risen { result ≡ Err LibraryErr.Failed → library_faults self.new ≡ one_more (library_faults self.old) }
+        ensures fails { (result ≡ Err LibraryErr.Failed)
+            ↔ IsTrue (is_listed (failing_fetches self.old) (fetch_count self.new)) }
+        ensures risen { result ≡ Err LibraryErr.Failed →
+            library_faults self.new ≡ one_more (library_faults self.old) }
         ensures not_risen { result ≢ Err LibraryErr.Failed → library_faults self.new ≡ library_faults self.old }
         ensures never_falls { library_faults self.old ≤ library_faults self.new }
         ensures failing { failing_fetches self.new ≡ failing_fetches self.old }

@@ -42,7 +42,8 @@ impl MemSink {
         ensures bytes { bytes_of self.new ≡ bytes_of self.old }
         ensures ended { ended self.new ≡ ended self.old }
         ensures finishes { failing_finishes self.new ≡ failing_finishes self.old }
-        ensures calls { (put_count self.new ≡ put_count self.old) × (finish_count self.new ≡ finish_count self.old) }
+        ensures calls { (put_count self.new ≡ put_count self.old)
+            × (finish_count self.new ≡ finish_count self.old) }
         ensures faults { sink_faults self.new ≡ sink_faults self.old }
     {
         self.puts.fail_at(call)
@@ -55,7 +56,8 @@ impl MemSink {
         ensures bytes { bytes_of self.new ≡ bytes_of self.old }
         ensures ended { ended self.new ≡ ended self.old }
         ensures puts { failing_puts self.new ≡ failing_puts self.old }
-        ensures calls { (put_count self.new ≡ put_count self.old) × (finish_count self.new ≡ finish_count self.old) }
+        ensures calls { (put_count self.new ≡ put_count self.old)
+            × (finish_count self.new ≡ finish_count self.old) }
         ensures faults { sink_faults self.new ≡ sink_faults self.old }
     {
         self.finishes.fail_at(call)
@@ -87,14 +89,19 @@ impl Sink for MemSink {
     fn put(&mut self, alloc: Global, piece: &[u8]) -> Result<(), SinkErr>
         ensures taken { Takes (Some (bytes_of self.old)) piece.now (Some (bytes_of self.new)) result }
         ensures open { ended self.new ≡ false }
-        ensures fails { (result ≡ Err SinkErr.Failed) ↔ IsTrue (is_listed (failing_puts self.old) (put_count self.new)) }
-        ensures half { result ≡ Err SinkErr.Failed → (bytes_of self.new ≡ bytes_of self.old ++ take (length piece.now / 2) piece.now) ⊎ (bytes_of self.new ≡ bytes_of self.old) }
+        ensures fails { (result ≡ Err SinkErr.Failed)
+            ↔ IsTrue (is_listed (failing_puts self.old) (put_count self.new)) }
+        ensures half { result ≡ Err SinkErr.Failed →
+            (bytes_of self.new ≡ bytes_of self.old ++ take (length piece.now / 2) piece.now)
+            ⊎ (bytes_of self.new ≡ bytes_of self.old) }
         ensures memory { result ≡ Err SinkErr.Memory → bytes_of self.new ≡ bytes_of self.old }
         ensures risen { result ≡ Err SinkErr.Failed → sink_faults self.new ≡ one_more (sink_faults self.old) }
         ensures not_risen { result ≢ Err SinkErr.Failed → sink_faults self.new ≡ sink_faults self.old }
         ensures never_falls { sink_faults self.old ≤ sink_faults self.new }
-        ensures failing { (failing_puts self.new ≡ failing_puts self.old) × (failing_finishes self.new ≡ failing_finishes self.old) }
-        ensures calls { (put_count self.new ≡ one_more (put_count self.old)) × (finish_count self.new ≡ finish_count self.old) }
+        ensures failing { (failing_puts self.new ≡ failing_puts self.old)
+            × (failing_finishes self.new ≡ failing_finishes self.old) }
+        ensures calls { (put_count self.new ≡ one_more (put_count self.old))
+            × (finish_count self.new ≡ finish_count self.old) }
     {
         let _ = alloc;
         self.finished = false;
@@ -111,12 +118,15 @@ impl Sink for MemSink {
         ensures taken { bytes_of self.new ≡ bytes_of self.old }
         ensures ended { ended self.new ≡ is_ok result }
         ensures memory { result ≢ Err SinkErr.Memory }
-        ensures fails { (result ≡ Err SinkErr.Failed) ↔ IsTrue (is_listed (failing_finishes self.old) (finish_count self.new)) }
+        ensures fails { (result ≡ Err SinkErr.Failed)
+            ↔ IsTrue (is_listed (failing_finishes self.old) (finish_count self.new)) }
         ensures risen { result ≡ Err SinkErr.Failed → sink_faults self.new ≡ one_more (sink_faults self.old) }
         ensures not_risen { result ≢ Err SinkErr.Failed → sink_faults self.new ≡ sink_faults self.old }
         ensures never_falls { sink_faults self.old ≤ sink_faults self.new }
-        ensures failing { (failing_puts self.new ≡ failing_puts self.old) × (failing_finishes self.new ≡ failing_finishes self.old) }
-        ensures calls { (put_count self.new ≡ put_count self.old) × (finish_count self.new ≡ one_more (finish_count self.old)) }
+        ensures failing { (failing_puts self.new ≡ failing_puts self.old)
+            × (failing_finishes self.new ≡ failing_finishes self.old) }
+        ensures calls { (put_count self.new ≡ put_count self.old)
+            × (finish_count self.new ≡ one_more (finish_count self.old)) }
     {
         let _ = alloc;
         self.finished = false;

@@ -42,7 +42,8 @@ impl Store for MemStore {
 
     fn append(&mut self, alloc: Global, run: u64, bytes: &[u8]) -> Result<(), StoreErr>
         requires { IsLive (lengths_of self.old) run }
-        ensures longer { OnOk result (lengths_of self.new ≡ slice_set (lengths_of self.old) run (Some (length_of (lengths_of self.old) run + length bytes.now))) }
+        ensures longer { OnOk result (lengths_of self.new
+            ≡ slice_set (lengths_of self.old) run (Some (length_of (lengths_of self.old) run + length bytes.now))) }
         ensures small { OnOk result (length_of (lengths_of self.new) run < 2 ^ 63) }
         ensures appended { OnOk result (runs_of self.new ≡ Appended run bytes.now (runs_of self.old)) }
         ensures unchanged { OnErr result (runs_of self.new ≡ runs_of self.old) }

@@ -50,8 +50,10 @@ pub trait Store {
     fn create(&mut self, alloc: Global) -> Result<u64, StoreErr>
         ensures number { IfOk result (λ run. (run ≡ length (lengths self.old)) × (run < 2 ^ 63)) }
         ensures made { OnOk result (lengths self.new ≡ lengths self.old ++ Some 0 ∷ []) }
-        ensures empty { OnOk result (contents self.new ≡ option_map (λ runs. runs ++ Some [] ∷ []) (contents self.old)) }
-        ensures err { OnErr result ((lengths self.new ≡ lengths self.old) × (contents self.new ≡ contents self.old)) }
+        ensures empty { OnOk result (contents self.new
+            ≡ option_map (λ runs. runs ++ Some [] ∷ []) (contents self.old)) }
+        ensures err { OnErr result ((lengths self.new ≡ lengths self.old)
+            × (contents self.new ≡ contents self.old)) }
         ensures failed { result ≡ Err StoreErr.Failed → HasRisen (faults self.old) (faults self.new) }
         ensures not_risen { result ≢ Err StoreErr.Failed → faults self.new ≡ faults self.old }
         ensures never_falls { faults self.old ≤ faults self.new };
@@ -59,9 +61,11 @@ pub trait Store {
     /// Puts bytes at a run's end. What the run has after an `Err` isn't told: the caller only removes it then.
     fn append(&mut self, alloc: Global, run: u64, bytes: &[u8]) -> Result<(), StoreErr>
         requires { IsLive (lengths self.old) run }
-        ensures longer { OnOk result (lengths self.new ≡ slice_set (lengths self.old) run (Some (length_of (lengths self.old) run + length bytes.now))) }
+        ensures longer { OnOk result (lengths self.new
+            ≡ slice_set (lengths self.old) run (Some (length_of (lengths self.old) run + length bytes.now))) }
         ensures small { OnOk result (length_of (lengths self.new) run < 2 ^ 63) }
-        ensures appended { OnOk result (contents self.new ≡ option_map (Appended run bytes.now) (contents self.old)) }
+        ensures appended { OnOk result (contents self.new
+            ≡ option_map (Appended run bytes.now) (contents self.old)) }
         ensures err { OnErr result (KeepsOthers (lengths self.old) (contents self.old) run (lengths self.new) (contents self.new)) }
         ensures failed { result ≡ Err StoreErr.Failed → HasRisen (faults self.old) (faults self.new) }
         ensures not_risen { result ≢ Err StoreErr.Failed → faults self.new ≡ faults self.old }
@@ -82,8 +86,10 @@ pub trait Store {
     fn remove(&mut self, alloc: Global, run: u64) -> Result<(), StoreErr>
         requires { IsLive (lengths self.old) run }
         ensures removed { OnOk result (lengths self.new ≡ slice_set (lengths self.old) run None) }
-        ensures gone { OnOk result (contents self.new ≡ option_map (λ runs. slice_set runs run None) (contents self.old)) }
-        ensures err { OnErr result ((lengths self.new ≡ lengths self.old) × (contents self.new ≡ contents self.old)) }
+        ensures gone { OnOk result (contents self.new
+            ≡ option_map (λ runs. slice_set runs run None) (contents self.old)) }
+        ensures err { OnErr result ((lengths self.new ≡ lengths self.old)
+            × (contents self.new ≡ contents self.old)) }
         ensures failed { result ≡ Err StoreErr.Failed → HasRisen (faults self.old) (faults self.new) }
         ensures not_risen { result ≢ Err StoreErr.Failed → faults self.new ≡ faults self.old }
         ensures never_falls { faults self.old ≤ faults self.new };

@@ -66,9 +66,12 @@ fn read_opened<F: Read + Drop>(
     max: u64,
 ) -> Result<Option<Vec<u8>>, LibraryErr>
     ensures missing { IfErr opened (λ error. error_kind error ≡ ErrorKind.NotFound → result ≡ Ok None) }
-    ensures unopened { IfErr opened (λ error. error_kind error ≢ ErrorKind.NotFound → result ≡ Err LibraryErr.Failed) }
-    ensures whole { IfOk opened (λ file. IfOk result (λ found. IsSomeAnd found (λ text. IfSome (F.remaining file) (λ bytes. text.items ≡ bytes)))) }
-    ensures too_long { IfOk opened (λ file. result ≡ Err LibraryErr.TooLong → IfSome (F.remaining file) (λ bytes. max < length bytes)) }
+    ensures unopened { IfErr opened (λ error. error_kind error ≢ ErrorKind.NotFound → result
+        ≡ Err LibraryErr.Failed) }
+    ensures whole { IfOk opened (λ file. IfOk result (λ found. IsSomeAnd found (λ text.
+        IfSome (F.remaining file) (λ bytes. text.items ≡ bytes)))) }
+    ensures too_long { IfOk opened (λ file. result ≡ Err LibraryErr.TooLong →
+        IfSome (F.remaining file) (λ bytes. max < length bytes)) }
     ensures within { IfOk result (λ found. IfSome found (λ text. length text.items ≤ max)) }
 {
     match opened {
@@ -82,7 +85,8 @@ fn read_opened<F: Read + Drop>(
 pub fn read_all<F: Read>(reader: &mut F, alloc: Global, max: u64) -> Result<Vec<u8>, LibraryErr>
     ensures within { IfOk result (λ text. length text.items ≤ max) }
     ensures whole { IfOk result (λ text. IfSome (F.remaining reader.old) (λ bytes. text.items ≡ bytes)) }
-    ensures too_long { result ≡ Err LibraryErr.TooLong → IfSome (F.remaining reader.old) (λ bytes. max < length bytes) }
+    ensures too_long { result ≡ Err LibraryErr.TooLong →
+        IfSome (F.remaining reader.old) (λ bytes. max < length bytes) }
 {
     let mut text = Vec::new(alloc);
     let mut piece = [0; PIECE];
