@@ -1,16 +1,21 @@
-//! What every layer speaks of: names, causes of refusals, places, statuses with their codes, and settings.
+//! What every layer speaks of: names and their numbers, causes of refusals, places, statuses with
+//! their codes, and settings.
 #![tactic(auto)]
 
 mod cause;
+mod id;
 mod name;
 mod place;
 mod settings;
+mod spot;
 mod status;
 
 pub use cause::Cause;
+pub use id::Id;
 pub use name::Name;
 pub use place::Place;
 pub use settings::Settings;
+pub use spot::Spot;
 pub use status::Status;
 
 #[cfg(test)]

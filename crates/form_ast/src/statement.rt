@@ -1,0 +1,59 @@
+ghost use Rattle.std.specs.Prelude.{◌≡◌};
+
+use crate::{Expr, NameList, Spelled};
+use form_base::Spot;
+use std::marker::Model;
+
+/// A statement as it is written. No names at `Drop`, `Skip` and `Print` means all expressions.
+#[derive(Debug, Drop)]
+pub enum Statement {
+    Symbols(NameList),
+    Drop(NameList),
+    Skip(NameList),
+    Local(Spelled, Expr),
+    Print(NameList),
+}
+
+/// A statement, and where its first token stands.
+#[derive(Debug, Drop)]
+pub struct Placed {
+    pub spot: Spot,
+    pub statement: Statement,
+}
+
+/// What stands up to a module instruction: in a clause the list of its statements, in the order of the text. Empty
+/// statements are left out.
+#[derive(Debug, Drop)]
+pub struct Module {
+    statements: Vec<Placed>,
+}
+
+impl Model for Module {
+    ghost use Rattle.std.specs.Prelude.{List};
+    ghost use Rattle.form_ast.specs.declared.statement.Placed.{Placed};
+
+    ghost Value = { List Placed };
+
+    ghost view = { λ m. m.statements.items };
+}
+
+impl Module {
+    pub fn from_vec(statements: Vec<Placed>) -> Module
+        ensures { result ≡ statements.items }
+    {
+        Module { statements }
+    }
+
+    pub fn as_slice(&self) -> &[Placed]
+        ensures { result.now ≡ self.now }
+    {
+        self.statements.as_slice()
+    }
+
+    pub fn into_vec(self) -> Vec<Placed>
+        ensures { result.items ≡ self }
+    {
+        let Module { statements } = self;
+        statements
+    }
+}

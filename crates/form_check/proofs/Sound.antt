@@ -1,0 +1,169 @@
+-- A program that is checked is sound.
+use Rattle.std.proofs.Common.{◌≡◌, ℕ, Bool, List, [], ◌∷◌, ◌++◌, All, Option, Some, None, Result, Ok, refl, sym, ap, subst, ◌∙◌, append_assoc}
+use Rattle.std.proofs.lemmas.List.{append-nil}
+use Rattle.std.proofs.lemmas.List.Elements.{All-nil, All-head, All-tail, All-push, All-weaker}
+use Rattle.form_names.specs.declared.kind.Kind.{Kind}
+use Rattle.form_names.specs.declared.kind.Kind.TheVariants.{Symbol, Expression}
+use Rattle.form_names.specs.Names.{Entry, lookup, kind_at}
+use Rattle.form_ast.specs.declared.expr.Spelled.{Spelled}
+use Rattle.form_ast.specs.declared.expr.Expr.{Expr}
+use Rattle.form_ast.specs.declared.statement.Statement.{Statement}
+use Rattle.form_ast.specs.declared.statement.Statement.TheVariants as written
+use Rattle.form_ast.specs.declared.statement.Placed.{Placed}
+use Rattle.form_ast.specs.Lawful.{AreLawful, IsLawfulStatement, AreLawfulModules}
+use Rattle.form_tree.specs.declared.tree.Piece.{Piece}
+use Rattle.form_tree.specs.declared.tree.Piece.TheVariants as pieces
+use Rattle.form_tree.specs.declared.tree.Tree.{Tree}
+use Rattle.form_check.specs.declared.checked.Checked.{Checked}
+use Rattle.form_check.specs.declared.checked.Checked.TheVariants.{Drop, Skip, Local, Print}
+use Rattle.form_check.specs.declared.checked.Selection.{Selection}
+use Rattle.form_check.specs.declared.checked.Selection.TheVariants as selections
+use Rattle.form_check.specs.Checking.{State, start, ended, with_statement, declared, symbol, expression, expressions, expression_at, expression_of_kind, selection, definition, by_form, statement, class_of, is_defined_again, module_checked, program}
+use Rattle.form_check.specs.Refusal.{Refusal, ◌>>=◌, each, listed}
+use Rattle.form_check.specs.RightSide.{piece, right_side}
+use Rattle.form_check.specs.Program.{Program}
+use Rattle.form_check.specs.Sound.{IsOfKind, IsPieceSound, IsRightSideSound, IsSelectionSound, IsStatementSound, AreModulesSound, IsSound}
+use Rattle.form_check.specs.Standing.{stands}
+use Rattle.form_check.proofs.Growing.{Grows, bind-Ok, else-Ok, ok_same, declared-Ok, symbols-grow}
+use Rattle.form_check.proofs.Pieces.{piece-Ok}
+use Rattle.form_check.proofs.Trees.{listed-All, sum-tree}
+
+-- ---- names that are added change nothing
+
+module _ (old new : List Entry) (grows : Grows old new) where
+  piece-grows : (standing : ℕ → Bool) (p : Piece) → IsPieceSound old standing p → IsPieceSound new standing p
+  piece-grows standing (pieces.Number link value power) h = h
+  piece-grows standing (pieces.Symbol link id power) h = (grows id Symbol h.0, h.1)
+  piece-grows standing (pieces.Stored link id power) h = (grows id Expression h.0, h.1, h.2)
+  piece-grows standing (pieces.Open link) h = h
+  piece-grows standing (pieces.Close power) h = h
+
+  selection-grows : (which : Selection) → IsSelectionSound old which → IsSelectionSound new which
+  selection-grows selections.All h = h
+  selection-grows (selections.Named ids) h =
+      All-weaker (IsOfKind Expression old) (IsOfKind Expression new) (λ id k. grows id Expression k) ids h
+
+  right_side-grows : (standing : ℕ → Bool) (list : List Piece) → IsRightSideSound old standing list → IsRightSideSound new standing list
+  right_side-grows standing list h = record {
+    tree = h.tree;
+    pieces = h.pieces;
+    each = All-weaker (IsPieceSound old standing) (IsPieceSound new standing) (piece-grows standing) list h.each;
+  }
+
+  statement-grows : (standing : ℕ → Bool) (s : Checked) → IsStatementSound old standing s → IsStatementSound new standing s
+  statement-grows standing (Drop which) h = selection-grows which h
+  statement-grows standing (Skip which) h = selection-grows which h
+  statement-grows standing (Local id right) h = (grows id Expression h.0, right_side-grows standing right h.1)
+  statement-grows standing (Print which) h = selection-grows which h
+
+  modules-grow : (earlier later : List (List Checked)) → AreModulesSound old earlier later → AreModulesSound new earlier later
+  modules-grow earlier [] h = h
+  modules-grow earlier (m ∷ rest) h =
+      (All-weaker (IsStatementSound old (stands earlier)) (IsStatementSound new (stands earlier)) (statement-grows (stands earlier)) m h.0, modules-grow (earlier ++ m ∷ []) rest h.1)
+
+-- one more module
+modules-push : (names : List Entry) (earlier later : List (List Checked)) (m : List Checked) → AreModulesSound names earlier later → All (IsStatementSound names (stands (earlier ++ later))) m → AreModulesSound names earlier (later ++ m ∷ [])
+modules-push names earlier [] m h each =
+    (subst (λ (before : List (List Checked)). All (IsStatementSound names (stands before)) m) (append-nil earlier) each, tt)
+modules-push names earlier (first ∷ rest) m h each =
+    (h.0, modules-push names (earlier ++ first ∷ []) rest m h.1 (subst (λ (before : List (List Checked)). All (IsStatementSound names (stands before)) m) (sym (append_assoc earlier (first ∷ []) rest)) each))
+
+-- ---- what is made is sound
+
+kind-Ok : (names : List Entry) (spelled : Spelled) (place id : ℕ) (kind : Option Kind) → kind_at names place ≡ kind → expression_of_kind kind place spelled ≡ Ok id → IsOfKind Expression names id
+kind-Ok names spelled place id None at is = cc
+kind-Ok names spelled place id (Some Symbol) at is = cc
+kind-Ok names spelled place id (Some Expression) at is =
+    subst (λ (i : ℕ). kind_at names i ≡ Some Expression) (ok_same is) at
+
+place-Ok : (names : List Entry) (spelled : Spelled) (id : ℕ) (place : Option ℕ) → expression_at names place spelled ≡ Ok id → IsOfKind Expression names id
+place-Ok names spelled id None is = cc
+place-Ok names spelled id (Some place) is = kind-Ok names spelled place id (kind_at names place) refl is
+
+selection-Ok : (names : List Entry) (list : List Spelled) (which : Selection) → selection names list ≡ Ok which → IsSelectionSound names which
+selection-Ok names [] which is = subst (IsSelectionSound names) (ok_same is) tt
+selection-Ok names (first ∷ rest) which is =
+    let found = bind-Ok (expressions names (first ∷ rest)) (λ ids. Ok (selections.Named ids)) which is in
+    subst (IsSelectionSound names) (ok_same found.2) (listed-All (expression names) (IsOfKind Expression names) (λ s id e. place-Ok names s id (lookup names s.name) e) (first ∷ rest) found.0 found.1)
+
+right_side-Ok : (names : List Entry) (standing : ℕ → Bool) (right : Expr) (list : Tree) → AreLawful right → right_side names standing right ≡ Ok list → IsRightSideSound names standing list
+right_side-Ok names standing right list lawful is =
+    let found = sum-tree names standing lawful.tree list (ap (listed (piece names standing)) (sym lawful.pieces) ∙ is) in
+    record {
+      tree = found.0;
+      pieces = found.1;
+      each = listed-All (piece names standing) (IsPieceSound names standing) (piece-Ok names standing) right list is;
+    }
+
+-- ---- states
+
+record IsStateSound (s : State) : Type 0 where
+  earlier : AreModulesSound s.names [] s.earlier
+  statements : All (IsStatementSound s.names (stands s.earlier)) s.statements
+
+-- the names of a state grow
+names-grow : (s : State) (names : List Entry) → Grows s.names names → IsStateSound s → IsStateSound (record s { names = names })
+names-grow s names grows h = record {
+  earlier = modules-grow s.names names grows [] s.earlier h.earlier;
+  statements = All-weaker (IsStatementSound s.names (stands s.earlier)) (IsStatementSound names (stands s.earlier)) (statement-grows s.names names grows (stands s.earlier)) s.statements h.statements;
+}
+
+pushed : (s : State) (more : Checked) → IsStatementSound s.names (stands s.earlier) more → IsStateSound s → IsStateSound (with_statement s more)
+pushed s more is h = record {
+  earlier = h.earlier;
+  statements = All-push (IsStatementSound s.names (stands s.earlier)) s.statements more h.statements is;
+}
+
+selected : (s t : State) (list : List Spelled) (made : Selection → Checked) → ((which : Selection) → IsSelectionSound s.names which → IsStatementSound s.names (stands s.earlier) (made which)) → (selection s.names list >>= (λ which. Ok (with_statement s (made which)))) ≡ Ok t → IsStateSound s → IsStateSound t
+selected s t list made holds is h =
+    let found = bind-Ok (selection s.names list) (λ which. Ok (with_statement s (made which))) t is in
+    subst IsStateSound (ok_same found.2) (pushed s (made found.0) (holds found.0 (selection-Ok s.names list found.0 found.1)) h)
+
+defined : (s t : State) (spelled : Spelled) (right : Expr) → AreLawful right → definition s spelled right ≡ Ok t → IsStateSound s → IsStateSound t
+defined s t spelled right lawful is h =
+    let new = else-Ok (is_defined_again s (lookup s.names spelled.name)) (declared s.names spelled Expression >>= (λ d. right_side d.1 (stands s.earlier) right >>= (λ list. Ok (with_statement (record s { names = d.1 }) (Local d.0 list))))) _ _ t is in
+    let made = bind-Ok (declared s.names spelled Expression) (λ d. right_side d.1 (stands s.earlier) right >>= (λ list. Ok (with_statement (record s { names = d.1 }) (Local d.0 list)))) t new.1 in
+    let names : List Entry = made.0.1 in
+    let list = bind-Ok (right_side names (stands s.earlier) right) (λ list. Ok (with_statement (record s { names = names }) (Local made.0.0 list))) t made.2 in
+    let declares = declared-Ok s.names spelled Expression made.0 made.1 in
+    subst IsStateSound (ok_same list.2) (pushed (record s { names = names }) (Local made.0.0 list.0) (declares.stands, right_side-Ok names (stands s.earlier) right list.0 lawful list.1) (names-grow s names declares.grows h))
+
+formed : (s t : State) (form : Statement) → IsLawfulStatement form → by_form s form ≡ Ok t → IsStateSound s → IsStateSound t
+formed s t (written.Symbols list) lawful is h =
+    let found = bind-Ok (each symbol s.names list) (λ names. Ok (record s { names = names })) t is in
+    subst IsStateSound (ok_same found.2) (names-grow s found.0 (symbols-grow list s.names found.0 found.1) h)
+formed s t (written.Drop list) lawful is h = selected s t list Drop (λ which k. k) is h
+formed s t (written.Skip list) lawful is h = selected s t list Skip (λ which k. k) is h
+formed s t (written.Local spelled right) lawful is h = defined s t spelled right lawful is h
+formed s t (written.Print list) lawful is h = selected s t list Print (λ which k. k) is h
+
+stated : (s t : State) (placed : Placed) → IsLawfulStatement placed.statement → statement s placed ≡ Ok t → IsStateSound s → IsStateSound t
+stated s t placed lawful is h =
+    let in_order = else-Ok _ (by_form (record s { class = class_of placed.statement }) placed.statement) _ _ t is in
+    formed (record s { class = class_of placed.statement }) t placed.statement lawful in_order.1 (record { earlier = h.earlier; statements = h.statements })
+
+-- what each step keeps is kept by all
+each-keeps : {S X : Type 0} (step : S → X → Result S Refusal) (P : S → Type 0) (Q : X → Type 0) → ((s t : S) (x : X) → Q x → step s x ≡ Ok t → P s → P t) → (s t : S) (xs : List X) → All Q xs → each step s xs ≡ Ok t → P s → P t
+each-keeps step P Q keeps s t [] all is h = subst P (ok_same is) h
+each-keeps step P Q keeps s t (x ∷ xs) all is h =
+    let first = bind-Ok (step s x) (λ next. each step next xs) t is in
+    each-keeps step P Q keeps first.0 t xs (All-tail Q x xs all) first.2 (keeps s first.0 x (All-head Q x xs all) first.1 h)
+
+closed : (s t : State) (list : List Placed) → All (λ placed. IsLawfulStatement placed.statement) list → module_checked s list ≡ Ok t → IsStateSound s → IsStateSound t
+closed s t list lawful is h =
+    let after = bind-Ok (each statement s list) (λ next. Ok (ended next)) t is in
+    let sound = each-keeps statement IsStateSound (λ placed. IsLawfulStatement placed.statement) stated s after.0 list lawful after.1 h in
+    subst IsStateSound (ok_same after.2) (record {
+      earlier = modules-push after.0.names [] after.0.earlier after.0.statements sound.earlier sound.statements;
+      statements = All-nil (IsStatementSound after.0.names (stands (after.0.earlier ++ after.0.statements ∷ [])));
+    })
+
+pub sound : (modules : List (List Placed)) (s : State) → AreLawfulModules modules → each module_checked start modules ≡ Ok s → AreModulesSound s.names [] s.earlier
+sound modules s lawful is =
+    let all = each-keeps module_checked IsStateSound (λ list. All (λ placed. IsLawfulStatement placed.statement) list) closed start s modules lawful is (record { earlier = tt; statements = All-nil (IsStatementSound [] (stands [])) }) in
+    all.earlier
+
+pub checked_is_sound : (modules : List (List Placed)) (checked : Program) → AreLawfulModules modules → program modules ≡ Ok checked → IsSound checked
+checked_is_sound modules checked lawful is =
+    let state = bind-Ok (each module_checked start modules) (λ s. Ok (record { names = s.names; modules = s.earlier })) checked is in
+    subst IsSound (ok_same state.2) (sound modules state.0 lawful state.1)

@@ -1,0 +1,143 @@
+-- The program that a text is, over Ids, or the first refusal in the order of the text.
+use Rattle.std.specs.Prelude.{ℕ, Bool, false, nat_lt, nat_le, if◌then◌else◌, List, [], ◌∷◌, ◌++◌, length, Option, Some, None, Result, Ok}
+use Rattle.form_base.specs.declared.cause.Cause.TheVariants.{StatementOrder, Undeclared, Redeclared, WrongKind, NumberRange}
+use Rattle.form_names.specs.declared.kind.Kind.{Kind}
+use Rattle.form_names.specs.declared.kind.Kind.TheVariants.{Symbol, Expression}
+use Rattle.form_names.specs.Names.{Entry, lookup, kind_at, declare}
+use Rattle.form_ast.specs.declared.expr.Spelled.{Spelled}
+use Rattle.form_ast.specs.declared.expr.Expr.{Expr}
+use Rattle.form_ast.specs.declared.statement.Statement.{Statement}
+use Rattle.form_ast.specs.declared.statement.Statement.TheVariants as written
+use Rattle.form_ast.specs.declared.statement.Placed.{Placed}
+use Rattle.form_check.specs.declared.checked.Checked.{Checked}
+use Rattle.form_check.specs.declared.checked.Checked.TheVariants.{Drop, Skip, Local, Print}
+use Rattle.form_check.specs.declared.checked.Selection.{Selection}
+use Rattle.form_check.specs.declared.checked.Selection.TheVariants as selections
+use Rattle.form_check.specs.Program.{Program}
+use Rattle.form_check.specs.Refusal.{Refusal, refused, ◌>>=◌, each, listed}
+use Rattle.form_check.specs.RightSide.{right_side}
+use Rattle.form_check.specs.Standing.{defines, stands}
+
+-- how many names may be declared
+abbrev pub most_names : ℕ
+most_names = 16777216
+
+-- ---- names
+
+abbrev pub declared_once : Option (ℕ × List Entry) → Spelled → Result (ℕ × List Entry) Refusal
+declared_once None spelled = refused (Redeclared spelled.name) spelled.spot
+declared_once (Some declared) spelled = Ok declared
+
+-- a new name where there are as many as may be is past the limit
+abbrev pub is_past_limit : List Entry → Option ℕ → Bool
+is_past_limit names None = nat_le most_names (length names)
+is_past_limit names (Some id) = false
+
+-- the Id of a name that is declared here, and the names after it
+abbrev pub declared : List Entry → Spelled → Kind → Result (ℕ × List Entry) Refusal
+declared names spelled kind =
+    if is_past_limit names (lookup names spelled.name) then refused NumberRange spelled.spot else declared_once (declare names spelled.name kind) spelled
+
+abbrev pub symbol : List Entry → Spelled → Result (List Entry) Refusal
+symbol names spelled = do
+  declaration ← declared names spelled Symbol
+  Ok declaration.1
+
+abbrev pub expression_of_kind : Option Kind → ℕ → Spelled → Result ℕ Refusal
+expression_of_kind None id spelled = refused (Undeclared spelled.name) spelled.spot
+expression_of_kind (Some Symbol) id spelled = refused (WrongKind spelled.name) spelled.spot
+expression_of_kind (Some Expression) id spelled = Ok id
+
+abbrev pub expression_at : List Entry → Option ℕ → Spelled → Result ℕ Refusal
+expression_at names None spelled = refused (Undeclared spelled.name) spelled.spot
+expression_at names (Some id) spelled = expression_of_kind (kind_at names id) id spelled
+
+-- the Id of an expression's name; the expression needn't stand
+abbrev pub expression : List Entry → Spelled → Result ℕ Refusal
+expression names spelled = expression_at names (lookup names spelled.name) spelled
+
+abbrev pub expressions : List Entry → List Spelled → Result (List ℕ) Refusal
+expressions names list = listed (expression names) list
+
+-- which expressions a statement means: all, where it has no names
+abbrev pub selection : List Entry → List Spelled → Result Selection Refusal
+selection names [] = Ok selections.All
+selection names (first ∷ rest) = do
+  ids ← expressions names (first ∷ rest)
+  Ok (selections.Named ids)
+
+-- ---- statements
+
+-- what is known before a statement: the names, the modules before, this one so far, and its highest class
+pub record State : Type 0 where
+  pub names : List Entry
+  pub earlier : List (List Checked)
+  pub statements : List Checked
+  pub class : ℕ
+
+-- declarations, what is dropped or skipped, definitions, output: in this order they stand in a module
+abbrev pub class_of : Statement → ℕ
+class_of (written.Symbols names) = 1
+class_of (written.Drop names) = 2
+class_of (written.Skip names) = 2
+class_of (written.Local name right) = 3
+class_of (written.Print names) = 5
+
+-- the state with one more statement
+abbrev pub with_statement : State → Checked → State
+with_statement state statement = record state { statements = state.statements ++ statement ∷ [] }
+
+-- an expression is defined once in a module
+abbrev pub is_defined_again : State → Option ℕ → Bool
+is_defined_again state None = false
+is_defined_again state (Some id) = defines state.statements id
+
+-- A definition: of a new name, or of an expression that isn't defined in this module yet. In its right side stand the
+-- expressions that stood at the start of the module.
+abbrev pub definition : State → Spelled → Expr → Result State Refusal
+definition state spelled right =
+    if is_defined_again state (lookup state.names spelled.name) then refused (Redeclared spelled.name) spelled.spot else (do
+      declaration ← declared state.names spelled Expression
+      pieces ← right_side declaration.1 (stands state.earlier) right
+      Ok (with_statement (record state { names = declaration.1 }) (Local declaration.0 pieces)))
+
+abbrev pub by_form : State → Statement → Result State Refusal
+by_form state (written.Symbols list) = do
+  names ← each symbol state.names list
+  Ok (record state { names = names })
+by_form state (written.Drop list) = do
+  which ← selection state.names list
+  Ok (with_statement state (Drop which))
+by_form state (written.Skip list) = do
+  which ← selection state.names list
+  Ok (with_statement state (Skip which))
+by_form state (written.Local spelled right) = definition state spelled right
+by_form state (written.Print list) = do
+  which ← selection state.names list
+  Ok (with_statement state (Print which))
+
+-- A statement: its class may not be below that of an earlier one of its module.
+abbrev pub statement : State → Placed → Result State Refusal
+statement state placed =
+    if nat_lt (class_of placed.statement) state.class then refused StatementOrder placed.spot else by_form (record state { class = class_of placed.statement }) placed.statement
+
+-- ---- modules
+
+-- before the first module
+abbrev pub start : State
+start = record { names = []; earlier = []; statements = []; class = 0 }
+
+-- after a module
+abbrev pub ended : State → State
+ended state = record { names = state.names; earlier = state.earlier ++ state.statements ∷ []; statements = []; class = 0 }
+
+abbrev pub module_checked : State → List Placed → Result State Refusal
+module_checked state statements = do
+  after ← each statement state statements
+  Ok (ended after)
+
+-- a whole text
+abbrev pub program : List (List Placed) → Result Program Refusal
+program modules = do
+  state ← each module_checked start modules
+  Ok (record { names = state.names; modules = state.earlier })

@@ -1,0 +1,160 @@
+ghost use Rattle.std.specs.Prelude.{◌≡◌, ◌+◌, ◌<◌, ◌≤◌, ◌^◌, ◌++◌, [], ◌∷◌, length, OnOk, IfOk, IfErr};
+ghost use Rattle.form_ast.specs.Lawful.{AreLawfulModules};
+ghost use Rattle.form_check.specs.Checker.{state_of, IsConsistent};
+ghost use Rattle.form_check.specs.Checking as checking;
+ghost use Rattle.form_check.specs.Checking.{definition, is_defined_again, module_checked, program, start, with_statement, most_names};
+ghost use Rattle.form_check.specs.Marks.{AreMarksOf};
+ghost use Rattle.form_check.specs.Refusal.{Gives};
+ghost use Rattle.form_check.specs.Sound.{IsSound};
+ghost use Rattle.form_names.specs.Names.{lookup};
+
+use crate::naming::{copy_of, declare, declare_symbols, selection_of};
+use crate::right_side::right_side;
+use crate::standing::Standing;
+use crate::{CheckError, Checked, Module, Program};
+use form_ast::{Expr, Placed, Spelled, Statement};
+use form_base::Cause;
+use form_names::{Kind, Names};
+use std::alloc::Global;
+use std::mem;
+
+/// Checks a program: its statements are taken in order, and the tokens of each from the left.
+pub fn check(alloc: Global, modules: &[form_ast::Module]) -> Result<Program, CheckError>
+    requires { AreLawfulModules modules.now }
+    ensures checked { Gives (λ p. p) result (program modules.now) }
+    ensures sound { IfOk result IsSound }
+{
+    let mut checker = Checker::new(alloc);
+    for module in modules {
+        checker.module(alloc, module)?;
+    }
+    Ok(Program::new(checker.names, checker.modules))
+}
+
+/// What is known of a program so far.
+#[derive(Drop)]
+struct Checker {
+    names: Names,
+    standing: Standing,
+    modules: Vec<Module>,
+    /// Those of the module that is checked.
+    statements: Vec<Checked>,
+    /// The highest class of the module's statements, 0 before the first.
+    class: u8,
+}
+
+impl Checker {
+    fn new(alloc: Global) -> Checker
+        ensures state { state_of result ≡ start }
+        ensures consistent { IsConsistent result }
+        ensures current { result.standing.current ≡ 1 }
+    {
+        Checker {
+            names: Names::new(alloc),
+            standing: Standing::new(alloc),
+            modules: Vec::new(alloc),
+            statements: Vec::new(alloc),
+            class: 0,
+        }
+    }
+
+    fn module(&mut self, alloc: Global, written: &form_ast::Module) -> Result<(), CheckError>
+        requires consistent { IsConsistent self.old }
+        requires room { self.old.standing.current + 1 < 2 ^ 64 }
+        ensures checked { Gives (λ _. state_of self.new) result (module_checked (state_of self.old) written.now) }
+        ensures consistent { OnOk result (IsConsistent self.new) }
+        ensures current { OnOk result (self.new.standing.current ≡ self.old.standing.current + 1) }
+    {
+        for placed in written.as_slice() {
+            self.statement(alloc, placed)?;
+        }
+        let statements = mem::replace(&mut self.statements, Vec::new(alloc));
+        self.modules.push(Module::from_vec(statements))?;
+        self.standing.end_module();
+        self.class = 0;
+        Ok(())
+    }
+
+    fn statement(&mut self, alloc: Global, placed: &Placed) -> Result<(), CheckError>
+        requires { IsConsistent self.old }
+        ensures checked { Gives (λ _. state_of self.new) result (checking.statement (state_of self.old) placed.now) }
+        ensures consistent { OnOk result (IsConsistent self.new) }
+        ensures current { OnOk result (self.new.standing.current ≡ self.old.standing.current) }
+    {
+        let class = class_of(&placed.statement);
+        if class < self.class {
+            return Err(CheckError::Refused(Cause::StatementOrder, placed.spot));
+        }
+        self.class = class;
+        match &placed.statement {
+            Statement::Symbols(list) => declare_symbols(alloc, &mut self.names, list.as_slice()),
+            Statement::Drop(list) => {
+                let which = selection_of(alloc, &self.names, list.as_slice())?;
+                self.standing.drop_selected(&which)?;
+                self.keep(Checked::Drop(which))
+            }
+            Statement::Skip(list) => {
+                let which = selection_of(alloc, &self.names, list.as_slice())?;
+                self.keep(Checked::Skip(which))
+            }
+            Statement::Local(spelled, right) => self.define(alloc, spelled, right),
+            Statement::Print(list) => {
+                let which = selection_of(alloc, &self.names, list.as_slice())?;
+                self.keep(Checked::Print(which))
+            }
+        }
+    }
+
+    /// A definition.
+    fn define(&mut self, alloc: Global, spelled: &Spelled, right: &Expr) -> Result<(), CheckError>
+        requires { IsConsistent self.old }
+        ensures checked { Gives (λ _. state_of self.new) result (definition (state_of self.old) spelled.now right.now) }
+        ensures consistent { OnOk result (IsConsistent self.new) }
+        ensures current { OnOk result (self.new.standing.current ≡ self.old.standing.current) }
+    {
+        if self.has_defined(spelled.name.as_str()) {
+            let name = copy_of(alloc, spelled)?;
+            return Err(CheckError::Refused(Cause::Redeclared(name), spelled.spot));
+        }
+        let id = declare(alloc, &mut self.names, spelled, Kind::Expression)?;
+        let tree = right_side(alloc, &self.names, &self.standing, right.as_slice())?;
+        self.standing.define(id)?;
+        self.keep(Checked::Local(id, tree))
+    }
+
+    /// Whether the module has defined an expression of this name.
+    fn has_defined(&self, name: &str) -> bool
+        requires { IsConsistent self.now }
+        ensures { result ≡ is_defined_again (state_of self.now) (lookup self.now.names name.now) }
+    {
+        match self.names.lookup(name) {
+            Some(id) => self.standing.is_defined(id),
+            None => false,
+        }
+    }
+
+    /// Puts a statement last, to which the marks have been brought up.
+    fn keep(&mut self, statement: Checked) -> Result<(), CheckError>
+        requires marks { AreMarksOf self.old.standing self.old.modules.items (self.old.statements.items ++ statement ∷ []) }
+        requires names { length self.old.names ≤ most_names }
+        ensures kept { OnOk result (state_of self.new ≡ with_statement (state_of self.old) statement) }
+        ensures memory { IfErr result (λ e. e ≡ CheckError.Memory) }
+        ensures consistent { OnOk result (IsConsistent self.new) }
+        ensures current { OnOk result (self.new.standing.current ≡ self.old.standing.current) }
+    {
+        self.statements.push(statement)?;
+        Ok(())
+    }
+}
+
+/// The place of a statement in a module: declarations, what is dropped or skipped, definitions, output.
+fn class_of(statement: &Statement) -> u8
+    ensures { result ≡ checking.class_of statement.now }
+{
+    match statement {
+        Statement::Symbols(_) => 1,
+        Statement::Drop(_) | Statement::Skip(_) => 2,
+        Statement::Local(_, _) => 3,
+        Statement::Print(_) => 5,
+    }
+}

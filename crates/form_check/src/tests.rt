@@ -1,0 +1,82 @@
+//! A definition is checked, and what breaks a rule behind it is refused at its line.
+ghost use Rattle.std.specs.Prelude.{◌≡◌, IfOk};
+ghost use Rattle.form_ast.specs.Lawful.{AreLawful, IsLawfulStatement, AreLawfulModules};
+
+use crate::{CheckError, check};
+use form_ast::{Expr, Link, Module, NameList, Piece, Placed, Spelled, Statement};
+use form_base::{Name, Spot};
+use std::alloc::{AllocError, Global};
+use std::test::Fail;
+
+fn spelled(alloc: Global, name: &str, line: u32) -> Result<Spelled, AllocError> {
+    Ok(Spelled {
+        name: Name::new(alloc, name)?,
+        spot: Spot { text: 0, line },
+    })
+}
+
+/// A list of one name.
+fn list_of(alloc: Global, name: &str, line: u32) -> Result<NameList, AllocError> {
+    let mut names = Vec::new(alloc);
+    names.push(spelled(alloc, name, line)?)?;
+    Ok(NameList::from_vec(names))
+}
+
+/// The right side `x`.
+fn right_side(alloc: Global) -> Result<Expr, AllocError>
+    ensures { IfOk result AreLawful }
+{
+    let mut pieces = Vec::new(alloc);
+    pieces.push(Piece::Name(Link::First, spelled(alloc, "x", 2)?, None))?;
+    Ok(Expr::from_vec(pieces))
+}
+
+fn placed(line: u32, statement: Statement) -> Placed
+    ensures { result.statement ≡ statement }
+{
+    Placed {
+        spot: Spot { text: 0, line },
+        statement,
+    }
+}
+
+/// `Symbols x;`, `Local F = x;` and a last statement, each on a line of its own.
+fn modules(alloc: Global, last: Statement) -> Result<Vec<Module>, AllocError>
+    requires { IsLawfulStatement last }
+    ensures { IfOk result (λ list. AreLawfulModules list.items) }
+{
+    let mut statements = Vec::new(alloc);
+    let symbols = Statement::Symbols(list_of(alloc, "x", 1)?);
+    let local = Statement::Local(spelled(alloc, "F", 2)?, right_side(alloc)?);
+    statements.push(placed(1, symbols))?;
+    statements.push(placed(2, local))?;
+    statements.push(placed(3, last))?;
+    let mut modules = Vec::new(alloc);
+    modules.push(Module::from_vec(statements))?;
+    Ok(modules)
+}
+
+/// The line at which the program is refused, 0 where it isn't.
+fn refused_at(alloc: Global, modules: &[Module]) -> Result<u32, AllocError>
+    requires { AreLawfulModules modules.now }
+{
+    match check(alloc, modules) {
+        Ok(program) => Ok(if program.names().len() == 2 && program.modules().len() == 1 {
+            0
+        } else {
+            9
+        }),
+        Err(CheckError::Refused(_, spot)) => Ok(spot.line),
+        Err(CheckError::Memory) => Err(AllocError),
+    }
+}
+
+#[test]
+fn statements_are_checked_in_order(rt: HostRuntime) -> Result<(), Fail> {
+    let alloc = rt.alloc();
+    let all = modules(alloc, Statement::Print(NameList::from_vec(Vec::new(alloc))))?;
+    assert!(rt; refused_at(alloc, &all)? == 0);
+    let wrong = modules(alloc, Statement::Print(list_of(alloc, "x", 3)?))?;
+    assert!(rt; refused_at(alloc, &wrong)? == 3);
+    Ok(())
+}

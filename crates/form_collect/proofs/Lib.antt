@@ -1,0 +1,5 @@
+pub mod Lists
+pub mod Members
+pub mod Sorted
+pub mod Stands
+pub mod Sums

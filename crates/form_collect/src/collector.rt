@@ -1,0 +1,102 @@
+ghost use Rattle.std.specs.Prelude.{◌≡◌, List, [], ◌∷◌, ◌++◌, Some, None, Err, OnOk, OnErr, IfOk};
+ghost use Rattle.form_term.specs.declared.monomial.Monomial.{Monomial};
+ghost use Rattle.form_collect.specs.Collecting.{collected};
+
+use form_frac::Frac;
+use form_term::{Monomial, Term, compare};
+use std::alloc::{AllocError, AllocFailed, Global};
+use std::collections::HashMap;
+
+/// The distinct terms of a list with the sums of their coefficients, as it comes term by term.
+#[derive(Drop)]
+pub struct Collector {
+    alloc: Global,
+    sums: HashMap<Term, Frac>,
+    has_overflowed: bool,
+}
+
+/// Why nothing is collected.
+#[derive(Debug, Drop)]
+pub enum CollectError {
+    /// A sum of coefficients is out of range.
+    Overflow,
+    Memory,
+}
+
+impl From<AllocError> for CollectError {
+    ghost use Rattle.std.specs.Prelude.{◌≡◌};
+    ghost use Rattle.form_collect.specs.declared.collector.CollectError.TheVariants.{Memory};
+
+    ghost from_gives = { λ _ e. e ≡ Memory };
+
+    fn from(_: AllocError) -> Self {
+        CollectError::Memory
+    }
+}
+
+impl<T: Drop> From<AllocFailed<T>> for CollectError {
+    ghost use Rattle.std.specs.Prelude.{◌≡◌};
+    ghost use Rattle.form_collect.specs.declared.collector.CollectError.TheVariants.{Memory};
+
+    ghost from_gives = { λ _ e. e ≡ Memory };
+
+    fn from(_: AllocFailed<T>) -> Self {
+        CollectError::Memory
+    }
+}
+
+impl Collector {
+    ghost use Rattle.form_collect.specs.Collector.{IsCollectionOf};
+
+    pub fn new(alloc: Global) -> Collector
+        ensures { IsCollectionOf result [] }
+    {
+        Collector {
+            alloc,
+            sums: HashMap::new(alloc),
+            has_overflowed: false,
+        }
+    }
+
+    /// Adds a term with its coefficient to the list. A term that is there already takes no memory.
+    pub fn add(&mut self, item: Monomial) -> Result<(), AllocError>
+        ensures ok { OnOk result ((list : List Monomial) → IsCollectionOf self.old list →
+            IsCollectionOf self.new (list ++ item ∷ [])) }
+        ensures err { OnErr result ((list : List Monomial) → IsCollectionOf self.old list →
+            IsCollectionOf self.new list) }
+    {
+        if self.has_overflowed {
+            return Ok(());
+        }
+        if let Some(sum) = self.sums.get_mut(&item.term) {
+            match sum.add(item.coefficient) {
+                Ok(raised) => *sum = raised,
+                Err(_) => self.has_overflowed = true,
+            }
+            return Ok(());
+        }
+        self.sums.insert(item.term, item.coefficient)?;
+        Ok(())
+    }
+
+    /// The collected list: the terms in their order, each with its sum, without those of sum 0.
+    pub fn into_terms(self) -> Result<Vec<Monomial>, CollectError>
+        ensures ok { IfOk result (λ terms. (list : List Monomial) → IsCollectionOf self list →
+            collected list ≡ Some terms.items) }
+        ensures overflow { result ≡ Err CollectError.Overflow → (list : List Monomial) → IsCollectionOf self list →
+            collected list ≡ None }
+    {
+        if self.has_overflowed {
+            return Err(CollectError::Overflow);
+        }
+        let mut terms = Vec::with_capacity(self.alloc, self.sums.len())?;
+        for (term, coefficient) in self.sums {
+            if coefficient.is_zero() {
+                continue;
+            }
+            terms.push(Monomial { coefficient, term })?;
+        }
+        terms.sort_unstable_by(|a, b| compare(&a.term, &b.term));
+        Ok(terms)
+    }
+}

@@ -1,0 +1,20 @@
+use Rattle.std.proofs.Common.{rules, to_z-of_z, SFits, Some, None, sym, ◌∙◌, ap}
+use Rattle.std.specs.Int.{w128}
+use Rattle.form_frac.proofs.Fractions.{whole_product_is}
+use Rattle.form_frac.proofs.frac.Frac.whole_product.Goals as goal
+
+pub returns-in_err-numerator : goal.returns-in_err-numerator
+returns-in_err-numerator c =
+    let left : SFits w128 c.numerator.result = search rules in
+    let right : SFits w128 c.numerator-2.result = search rules in
+    let product = simp to_z-of_z at c.product.ensures in
+    c.from_residual.ensures ∙ whole_product_is c.args.self c.args.other _ _ c.numerator.ensures.value c.numerator-2.ensures.value c.requires.left c.requires.right None (sym c.in_err-numerator.was ∙ product)
+
+pub returns : goal.returns
+returns c =
+    let left : SFits w128 c.numerator.result = search rules in
+    let right : SFits w128 c.numerator-2.result = search rules in
+    let found : SFits w128 c.in_ok-numerator.numerator = search rules in
+    let product = simp to_z-of_z at c.product.ensures in
+    let number = simp to_z-of_z at c.whole.ensures in
+    ap Some number ∙ whole_product_is c.args.self c.args.other _ _ c.numerator.ensures.value c.numerator-2.ensures.value c.requires.left c.requires.right (Some c.in_ok-numerator.numerator) (sym c.in_ok-numerator.was ∙ product)

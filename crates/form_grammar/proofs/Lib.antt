@@ -1,0 +1,6 @@
+pub mod Complete
+pub mod Places
+pub mod Powers
+pub mod Raised
+pub mod Read
+pub mod Sound

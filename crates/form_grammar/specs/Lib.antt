@@ -1,0 +1,4 @@
+pub mod Effect
+pub mod Grammar
+pub mod Reading
+pub mod Terminal

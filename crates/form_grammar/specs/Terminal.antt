@@ -1,0 +1,35 @@
+-- Tokens as the grammar sees them.
+use Rattle.form_ast.specs.declared.expr.Sign.TheVariants as signs
+use Rattle.form_lexer.specs.declared.mark.Mark as marks
+use Rattle.form_lexer.specs.declared.mark.Mark.TheVariants.{Plus, Minus}
+use Rattle.form_lexer.specs.declared.mark.Mark.TheVariants as mark
+use Rattle.form_lexer.specs.declared.token.Token.{Token}
+use Rattle.form_lexer.specs.declared.token.TokenKind.{TokenKind}
+use Rattle.form_lexer.specs.declared.token.TokenKind.TheVariants as kind
+use Rattle.form_base.specs.declared.spot.Spot.{Spot}
+use Rattle.form_grammar.specs.declared.terminal.Terminal.{Terminal}
+use Rattle.form_grammar.specs.declared.terminal.Terminal.TheVariants.{Number, Name, Sign, Times, Over, Raise, Open, Close, Comma, Equals, Other}
+
+-- a mark as the grammar sees it
+abbrev pub mark_terminal : marks.Mark → Terminal
+mark_terminal mark.Plus = Sign signs.Plus
+mark_terminal mark.Minus = Sign signs.Minus
+mark_terminal mark.Times = Times
+mark_terminal mark.Over = Over
+mark_terminal mark.Power = Raise
+mark_terminal mark.Open = Open
+mark_terminal mark.Close = Close
+mark_terminal mark.Comma = Comma
+mark_terminal mark.Equals = Equals
+mark_terminal _ = Other
+
+abbrev pub kind_terminal : TokenKind → Spot → Terminal
+kind_terminal (kind.Number value) spot = Number (record { value = value; spot = spot })
+kind_terminal (kind.Name name) spot = Name (record { name = name; spot = spot })
+kind_terminal (kind.BuiltIn built_in) spot = Other
+kind_terminal (kind.Mark mark) spot = mark_terminal mark
+kind_terminal kind.Stray spot = Other
+
+-- a token as the grammar sees it: numbers and names keep their spots, and marks are marks wherever they stand
+abbrev pub terminal_of : Token → Terminal
+terminal_of token = kind_terminal token.kind token.spot

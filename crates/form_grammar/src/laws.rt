@@ -1,0 +1,20 @@
+//! Laws of the definitions, each the contract of a function that does nothing.
+
+ghost use Rattle.std.specs.Prelude.{◌≡◌, ◌⊎◌, List};
+ghost use Rattle.form_ast.specs.declared.expr.Piece.{Piece};
+ghost use Rattle.form_ast.specs.Syntax.{Sum};
+ghost use Rattle.form_ast.specs.Lawful.{IsLawful};
+ghost use Rattle.form_grammar.specs.declared.terminal.Terminal.{Terminal};
+ghost use Rattle.form_grammar.specs.Grammar.{IsExpr, written_sum};
+
+/// Terminals are one right side, with one tree, or none.
+pub fn one_tree()
+    ensures tree { (terminals : List Terminal) (tree other : Sum) → IsLawful tree → IsLawful other →
+        terminals ≡ written_sum tree → terminals ≡ written_sum other → tree ≡ other }
+    ensures pieces { (terminals : List Terminal) (pieces others : List Piece) →
+        IsExpr terminals pieces → IsExpr terminals others → pieces ≡ others }
+    ensures some_or_none { (terminals : List Terminal) →
+        ((pieces : List Piece) × IsExpr terminals pieces) ⊎ ((pieces : List Piece) → IsExpr terminals pieces → ⊥) }
+{
+    form_ast::laws::one_tree();
+}

@@ -1,0 +1,15 @@
+//! Reading a right side: which tokens are one, and which tree it is.
+#![tactic(auto)]
+
+mod effect;
+mod error;
+pub mod laws;
+mod reader;
+mod terminal;
+
+pub use error::ReadError;
+pub use reader::read_expr;
+pub use terminal::Terminal;
+
+#[cfg(test)]
+mod tests;

@@ -1,0 +1,58 @@
+ghost use Rattle.std.specs.Prelude.{◌≡◌};
+ghost use Rattle.form_grammar.specs.Terminal.{mark_terminal as mark_terminal_of};
+
+use form_ast::{Number, Sign, Spelled};
+use form_lexer::{Mark, Token, TokenKind};
+
+/// A token as the grammar sees it, without the spots of marks.
+#[derive(Debug, Drop)]
+pub enum Terminal {
+    Number(Number),
+    Name(Spelled),
+    Sign(Sign),
+    Times,
+    Over,
+    /// The mark before a power.
+    Raise,
+    Open,
+    Close,
+    Comma,
+    Equals,
+    /// A token that stands nowhere in the grammar.
+    Other,
+}
+
+/// A mark as the grammar sees it.
+fn mark_terminal(mark: Mark) -> Terminal
+    ensures { result ≡ mark_terminal_of mark }
+{
+    match mark {
+        Mark::Plus => Terminal::Sign(Sign::Plus),
+        Mark::Minus => Terminal::Sign(Sign::Minus),
+        Mark::Times => Terminal::Times,
+        Mark::Over => Terminal::Over,
+        Mark::Power => Terminal::Raise,
+        Mark::Open => Terminal::Open,
+        Mark::Close => Terminal::Close,
+        Mark::Comma => Terminal::Comma,
+        Mark::Equals => Terminal::Equals,
+        _ => Terminal::Other,
+    }
+}
+
+impl From<Token> for Terminal {
+    ghost use Rattle.std.specs.Prelude.{◌≡◌};
+    ghost use Rattle.form_grammar.specs.Terminal.{terminal_of};
+
+    ghost from_gives = { λ token terminal. terminal ≡ terminal_of token };
+
+    fn from(token: Token) -> Terminal {
+        let Token { kind, spot } = token;
+        match kind {
+            TokenKind::Number(value) => Terminal::Number(Number { value, spot }),
+            TokenKind::Name(name) => Terminal::Name(Spelled { name, spot }),
+            TokenKind::Mark(mark) => mark_terminal(mark),
+            TokenKind::BuiltIn(_) | TokenKind::Stray => Terminal::Other,
+        }
+    }
+}

@@ -1,0 +1,89 @@
+//! Right sides against pieces that are written out by hand.
+
+use crate::{ReadError, read_expr};
+use form_ast::{Link, Piece, Power};
+use form_base::Spot;
+use form_lexer::{Token, lex};
+use std::alloc::{AllocError, Global};
+use std::test::Fail;
+
+/// A line's tokens, and none of a line that isn't ASCII.
+fn tokens_of(alloc: Global, line: &str) -> Result<Vec<Token>, AllocError> {
+    let mut tokens = Vec::new(alloc);
+    if line.is_ascii() {
+        lex(alloc, Spot { text: 0, line: 1 }, line, &mut tokens)?;
+    }
+    Ok(tokens)
+}
+
+fn link(link: Link) -> char {
+    match link {
+        Link::First => '1',
+        Link::Plus => '+',
+        Link::Minus => '-',
+        Link::Times => '*',
+        Link::Over => '/',
+    }
+}
+
+fn power(power: &Option<Power>) -> char {
+    match power {
+        Some(power) if power.is_parenthesized => '%',
+        Some(_) => '^',
+        None => '.',
+    }
+}
+
+/// Three characters for each piece: how it stands, what it is, and its power.
+fn letters(piece: &Piece) -> (char, char, char) {
+    match piece {
+        Piece::Number(l, _, p) => (link(*l), 'n', power(p)),
+        Piece::Name(l, _, p) => (link(*l), 'a', power(p)),
+        Piece::Open(l) => (link(*l), '(', '.'),
+        Piece::Close(p) => ('.', ')', power(p)),
+    }
+}
+
+/// The characters of a right side's pieces, and nothing where the line isn't one.
+fn pieces_of(alloc: Global, line: &str) -> Result<String, Fail> {
+    let mut pieces = String::new(alloc);
+    match read_expr(alloc, tokens_of(alloc, line)?.into_iter()) {
+        Ok(expr) => {
+            for piece in expr.as_slice() {
+                let (l, kind, p) = letters(piece);
+                pieces.push(l)?;
+                pieces.push(kind)?;
+                pieces.push(p)?;
+            }
+            Ok(pieces)
+        }
+        Err(ReadError::BadSyntax) => Ok(pieces),
+        Err(ReadError::Memory) => Err(Fail::from("no memory")),
+    }
+}
+
+#[test]
+fn reads_right_sides(rt: HostRuntime) -> Result<(), Fail> {
+    let alloc = rt.alloc();
+    assert_eq!(rt;
+        pieces_of(alloc, "2*x^2 - (x/3^(-1))^+2")?.as_str(),
+        "1n.*a^-(.1a./n%.)^"
+    );
+    assert_eq!(rt;
+        pieces_of(alloc, "-(+[x y])*7^-0")?.as_str(),
+        "-(.+a..).*n^"
+    );
+    assert_eq!(rt; pieces_of(alloc, "(x)^(-0)")?.as_str(), "1(.1a..)%");
+    Ok(())
+}
+
+#[test]
+fn reads_nothing_else(rt: HostRuntime) -> Result<(), Fail> {
+    let lines = [
+        "", "x y", "2*-3", "--x", "x^-1^2", "x/(y)", "(x)^-1", "(x", "x)", "x^y", "x^(2", "i_",
+    ];
+    for line in lines {
+        assert_eq!(rt; pieces_of(rt.alloc(), line)?.as_str(), "");
+    }
+    Ok(())
+}

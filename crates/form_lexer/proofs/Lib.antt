@@ -1,0 +1,9 @@
+pub mod Fronts
+pub mod Marks
+pub mod Classes
+pub mod Complete
+pub mod Local
+pub mod Sound
+pub mod First
+pub mod One
+pub mod Next

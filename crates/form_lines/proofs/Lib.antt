@@ -1,0 +1,5 @@
+mod Splitting
+mod Plain
+mod Going
+mod Handing
+mod Programs

@@ -1,0 +1,11 @@
+//! The names that a program declares, in the order of declaration.
+#![tactic(auto)]
+
+mod kind;
+mod names;
+
+pub use kind::Kind;
+pub use names::{DeclareError, Names};
+
+#[cfg(test)]
+mod tests;

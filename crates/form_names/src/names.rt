@@ -1,0 +1,112 @@
+ghost use Rattle.std.specs.Prelude.{◌≡◌, ◌<◌, ◌-◌, ◌^◌, ◌++◌, [], ◌∷◌, None, Some, Err, IfOk, IfSome, OnOk, OnErr, length};
+ghost use Rattle.form_names.specs.Names.{lookup, kind_at, name_at, declare};
+
+use crate::Kind;
+use form_base::{Id, Name};
+use indexmap::IndexMap;
+use std::alloc::{AllocError, Global};
+use std::marker::Model;
+
+/// Why a name wasn't declared.
+#[derive(Debug, Drop)]
+pub enum DeclareError {
+    /// It stands with another kind.
+    Redeclared,
+    Memory,
+}
+
+impl From<AllocError> for DeclareError {
+    ghost use Rattle.std.specs.Prelude.{◌≡◌};
+    ghost use Rattle.form_names.specs.declared.names.DeclareError.TheVariants.{Memory};
+
+    ghost from_gives = { λ _ error. error ≡ Memory };
+
+    fn from(_: AllocError) -> Self {
+        DeclareError::Memory
+    }
+}
+
+/// The names of a program: a list in order of declaration, in which an `Id` is a position.
+#[derive(Drop)]
+pub struct Names {
+    kinds: IndexMap<String, Kind>,
+}
+
+impl Model for Names {
+    ghost use Rattle.std.specs.Prelude.{◌<◌, ◌^◌, List, length};
+    ghost use Rattle.form_names.specs.Names.{Entry, entries_of};
+
+    ghost Value = { List Entry };
+
+    ghost view = { λ names. entries_of names.kinds.entries };
+
+    ghost invariant = { λ names. length (entries_of names.kinds.entries) < 2 ^ 32 };
+}
+
+impl Names {
+    pub fn new(alloc: Global) -> Names
+        ensures { result ≡ [] }
+    {
+        Names {
+            kinds: IndexMap::new(alloc),
+        }
+    }
+
+    /// How many names stand.
+    pub fn len(&self) -> u32
+        ensures { result ≡ length self.now }
+    {
+        self.kinds.len() as u32
+    }
+
+    /// Declares a name. One that stands with this kind keeps its `Id`, and any other one goes last. Where this is
+    /// refused, and where memory is wanting, all stays as it was.
+    pub fn declare(&mut self, name: Name, kind: Kind) -> Result<Id, DeclareError>
+        requires { length self.old < 2 ^ 32 - 1 }
+        ensures declared { IfOk result (λ id. declare self.old name kind ≡ Some (id, self.new)) }
+        ensures redeclared { result ≡ Err DeclareError.Redeclared → declare self.old name kind ≡ None }
+        ensures unchanged { OnErr result (self.new ≡ self.old) }
+    {
+        match self.lookup(name.as_str()) {
+            Some(id) if self.kind(id) == kind => Ok(id),
+            Some(_) => Err(DeclareError::Redeclared),
+            None => Ok(self.push(name, kind)?),
+        }
+    }
+
+    /// Puts a new name last.
+    fn push(&mut self, name: Name, kind: Kind) -> Result<Id, AllocError>
+        requires new { lookup self.old name ≡ None }
+        requires room { length self.old < 2 ^ 32 - 1 }
+        ensures id { IfOk result (λ id. id ≡ length self.old) }
+        ensures last { OnOk result (self.new ≡ self.old ++ record { name = name; kind = kind } ∷ []) }
+        ensures unchanged { OnErr result (self.new ≡ self.old) }
+    {
+        let (position, _) = self.kinds.insert_full(name.into_string(), kind)?;
+        Ok(Id::new(position as u32))
+    }
+
+    /// The first position at which the name stands.
+    pub fn lookup(&self, name: &str) -> Option<Id>
+        ensures found { result ≡ lookup self.now name.now }
+        ensures within { IfSome result (λ id. id < length self.now) }
+    {
+        let position = self.kinds.get_index_of(name)?;
+        Some(Id::new(position as u32))
+    }
+
+    pub fn kind(&self, id: Id) -> Kind
+        requires { id < length self.now }
+        ensures { kind_at self.now id ≡ Some result }
+    {
+        self.kinds[id.position() as usize]
+    }
+
+    pub fn name(&self, id: Id) -> &str
+        requires { id < length self.now }
+        ensures { name_at self.now id ≡ Some result.now }
+    {
+        let (name, _) = self.kinds.get_index(id.position() as usize).unwrap();
+        name.as_str()
+    }
+}

@@ -1,0 +1,17 @@
+use Rattle.form_stmts.specs.Reading.{terminals}
+use Rattle.form_stmts.specs.Statement.{AreNames, AreNamesOrNone, FollowsKeyword}
+use Rattle.form_stmts.specs.declared.keyword.Keyword.TheVariants.{Symbols, Drop, Skip, Print}
+use Rattle.form_stmts.proofs.Excluded.{excluded}
+use Rattle.form_stmts.proofs.statement.read_behind.Goals as goal
+
+pub returns-in-Err-clause-none : goal.returns-in-Err-clause-none
+returns-in-Err-clause-none c = rw c.in-Symbols.is (excluded (AreNames (terminals c.args.tokens)) (FollowsKeyword Symbols (terminals c.args.tokens)) c.in-Err.error (λ s h. (h.0, h.1)) c.in-Err.ensures.none)
+
+pub returns-in-Err-read_names_or_none-clause-none : goal.returns-in-Err-read_names_or_none-clause-none
+returns-in-Err-read_names_or_none-clause-none c = rw c.in-Drop.is (excluded (AreNamesOrNone (terminals c.args.tokens)) (FollowsKeyword Drop (terminals c.args.tokens)) c.in-Err-read_names_or_none.error (λ s h. (h.0, h.1)) c.in-Err-read_names_or_none.ensures.none)
+
+pub returns-in-Err-read_names_or_none-2-clause-none : goal.returns-in-Err-read_names_or_none-2-clause-none
+returns-in-Err-read_names_or_none-2-clause-none c = rw c.in-Skip.is (excluded (AreNamesOrNone (terminals c.args.tokens)) (FollowsKeyword Skip (terminals c.args.tokens)) c.in-Err-read_names_or_none-2.error (λ s h. (h.0, h.1)) c.in-Err-read_names_or_none-2.ensures.none)
+
+pub returns-in-Err-read_names_or_none-3-clause-none : goal.returns-in-Err-read_names_or_none-3-clause-none
+returns-in-Err-read_names_or_none-3-clause-none c = rw c.in-Print.is (excluded (AreNamesOrNone (terminals c.args.tokens)) (FollowsKeyword Print (terminals c.args.tokens)) c.in-Err-read_names_or_none-3.error (λ s h. (h.0, h.1)) c.in-Err-read_names_or_none-3.ensures.none)

@@ -1,0 +1,6 @@
+pub mod Instruction
+pub mod Keyword
+pub mod Program
+pub mod Progress
+pub mod Reading
+pub mod Statement

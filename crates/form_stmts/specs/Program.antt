@@ -1,0 +1,116 @@
+-- The modules of lines, and where lines are refused.
+use Rattle.std.specs.Prelude.{◌≡◌, ◌⊎◌, List, [], ◌∷◌, ◌++◌, map, Bool, true, false, IsTrue, Option, Some, None, MatchBool, if◌then◌else◌}
+use Rattle.form_base.specs.declared.spot.Spot.{Spot}
+use Rattle.form_lines.specs.Text.{PhysicalLine}
+use Rattle.form_lexer.specs.declared.mark.Mark as marks
+use Rattle.form_lexer.specs.declared.mark.Mark.TheVariants as by_mark
+use Rattle.form_lexer.specs.declared.token.Token.{Token}
+use Rattle.form_lexer.specs.declared.token.TokenKind.{TokenKind}
+use Rattle.form_lexer.specs.declared.token.TokenKind.TheVariants as by_kind
+use Rattle.form_lexer.specs.Tokens.{AreTokens}
+use Rattle.form_ast.specs.declared.statement.Statement.{Statement}
+use Rattle.form_ast.specs.declared.statement.Placed.{Placed}
+use Rattle.form_grammar.specs.Terminal.{terminal_of}
+use Rattle.form_stmts.specs.declared.error.ProgramError.{ProgramError}
+use Rattle.form_stmts.specs.declared.error.ProgramError.TheVariants.{BadSyntax, Memory}
+use Rattle.form_stmts.specs.Instruction.{begins_with_period, is_module_instruction}
+use Rattle.form_stmts.specs.Statement.{IsStatement}
+
+-- what lines have in order: tokens, and lines that begin with a period
+pub data Lexed : Type 0 where
+  token : Token → Lexed
+  period : PhysicalLine → Lexed
+
+abbrev pub spot_of : PhysicalLine → Spot
+spot_of line = record { text = 0; line = line.number }
+
+-- this is what a line has
+abbrev pub IsLexed : PhysicalLine → List Lexed → Type 0
+IsLexed line lexed = MatchBool (begins_with_period line.text)
+    (lexed ≡ period line ∷ [])
+    ((tokens : List Token) × AreTokens (spot_of line) line.text tokens × (lexed ≡ map token tokens))
+
+-- this is what lines have
+abbrev pub AreLexed : List PhysicalLine → List Lexed → Type 0
+AreLexed [] lexed = lexed ≡ []
+AreLexed (line ∷ lines) lexed = (here : List Lexed) × IsLexed line here × (rest : List Lexed) × AreLexed lines rest × (lexed ≡ here ++ rest)
+
+-- what is judged: the tokens of a statement up to its `;`, tokens that no `;` ends before a line that begins with a
+-- period, and such lines
+pub data Item : Type 0 where
+  statement : List Token → Item
+  unfinished : Token → List Token → Item
+  instruction : PhysicalLine → Item
+
+abbrev pub is_semicolon_mark : marks.Mark → Bool
+is_semicolon_mark by_mark.Semicolon = true
+is_semicolon_mark _ = false
+
+abbrev pub is_semicolon_kind : TokenKind → Bool
+is_semicolon_kind (by_kind.Mark mark) = is_semicolon_mark mark
+is_semicolon_kind _ = false
+
+abbrev pub is_semicolon : Token → Bool
+is_semicolon t = is_semicolon_kind t.kind
+
+-- where tokens begin
+abbrev pub first_spot : List Token → Option Spot
+first_spot [] = None
+first_spot (t ∷ ts) = Some t.spot
+
+abbrev pub unfinished_items : List Token → List Item
+unfinished_items [] = []
+unfinished_items (t ∷ ts) = unfinished t ts ∷ []
+
+-- the items, where these tokens of a statement are there already
+abbrev pub items : List Token → List Lexed → List Item
+items begun [] = []
+items begun (token t ∷ lexed) = if is_semicolon t then statement begun ∷ items [] lexed else items (begun ++ t ∷ []) lexed
+items begun (period line ∷ lexed) = unfinished_items begun ++ instruction line ∷ items [] lexed
+
+-- what is in the grammar: empty statements are
+abbrev pub IsInGrammar : Item → Type 0
+IsInGrammar (statement []) = Unit {0}
+IsInGrammar (statement (t ∷ ts)) = (s : Statement) × IsStatement (map terminal_of (t ∷ ts)) s
+IsInGrammar (unfinished t ts) = ⊥
+IsInGrammar (instruction line) = IsTrue (is_module_instruction line.text)
+
+-- where an item is refused: at its first token, or at its line
+abbrev pub StandsAt : Item → Spot → Type 0
+StandsAt (statement []) spot = ⊥
+StandsAt (statement (t ∷ ts)) spot = t.spot ≡ spot
+StandsAt (unfinished t ts) spot = t.spot ≡ spot
+StandsAt (instruction line) spot = spot_of line ≡ spot
+
+-- items are refused at this spot: there stands the first that isn't in the grammar
+abbrev pub IsRefusedAt : List Item → Spot → Type 0
+IsRefusedAt [] spot = ⊥
+IsRefusedAt (item ∷ others) spot = ((IsInGrammar item → ⊥) × StandsAt item spot) ⊎ (IsInGrammar item × IsRefusedAt others spot)
+
+-- The lines are refused at this spot.
+pub record IsRefused (lines : List PhysicalLine) (spot : Spot) : Type 0 where
+  pub lexed : List Lexed
+  pub are_lexed : AreLexed lines lexed
+  pub refused : IsRefusedAt (items [] lexed) spot
+
+-- The items are these modules, the first of which has these statements already. What stands behind the last
+-- instruction is in none.
+abbrev pub AreModules : List Placed → List Item → List (List Placed) → Type 0
+AreModules begun [] modules = modules ≡ []
+AreModules begun (statement [] ∷ others) modules = AreModules begun others modules
+AreModules begun (statement (t ∷ ts) ∷ others) modules =
+    (s : Statement) × IsStatement (map terminal_of (t ∷ ts)) s × AreModules (begun ++ record { spot = t.spot; statement = s } ∷ []) others modules
+AreModules begun (unfinished t ts ∷ others) modules = ⊥
+AreModules begun (instruction line ∷ others) modules =
+    IsTrue (is_module_instruction line.text) × (rest : List (List Placed)) × (modules ≡ begun ∷ rest) × AreModules [] others rest
+
+-- The lines are a program of these modules.
+pub record IsProgram (lines : List PhysicalLine) (modules : List (List Placed)) : Type 0 where
+  pub lexed : List Lexed
+  pub are_lexed : AreLexed lines lexed
+  pub are_modules : AreModules [] (items [] lexed) modules
+
+-- where lines are refused; want of memory is free
+abbrev pub IsRefusal : ProgramError → List PhysicalLine → Type 0
+IsRefusal (BadSyntax spot) lines = IsRefused lines spot
+IsRefusal Memory lines = Unit {0}

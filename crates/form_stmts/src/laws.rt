@@ -1,0 +1,29 @@
+//! Laws of the definitions, each the contract of a function that does nothing.
+
+ghost use Rattle.std.specs.Prelude.{◌≡◌, ◌⊎◌, List};
+ghost use Rattle.form_base.specs.declared.spot.Spot.{Spot};
+ghost use Rattle.form_lines.specs.Text.{PhysicalLine};
+ghost use Rattle.form_ast.specs.declared.statement.Placed.{Placed};
+ghost use Rattle.form_ast.specs.Lawful.{AreLawfulModules};
+ghost use Rattle.form_stmts.specs.Program.{IsProgram, IsRefused};
+
+/// Lines are a program, in one way, or refused, at one spot.
+pub fn one_reading()
+    ensures some { (lines : List PhysicalLine) →
+        ((modules : List (List Placed)) × IsProgram lines modules) ⊎ ((spot : Spot) × IsRefused lines spot) }
+    ensures one_program { (lines : List PhysicalLine) (modules others : List (List Placed)) →
+        IsProgram lines modules → IsProgram lines others → modules ≡ others }
+    ensures one_refusal { (lines : List PhysicalLine) (spot other : Spot) →
+        IsRefused lines spot → IsRefused lines other → spot ≡ other }
+    ensures never_both { (lines : List PhysicalLine) (modules : List (List Placed)) (spot : Spot) →
+        IsProgram lines modules → IsRefused lines spot → ⊥ }
+{
+    form_lexer::laws::one_list_of_tokens();
+    form_grammar::laws::one_tree();
+}
+
+/// The right sides of a program are lawful.
+pub fn right_sides_are_lawful()
+    ensures { (lines : List PhysicalLine) (modules : List (List Placed)) →
+        IsProgram lines modules → AreLawfulModules modules }
+{}

@@ -1,0 +1,17 @@
+//! Statements and modules: from the lines of a program to its statements as they are written.
+#![tactic(auto)]
+
+mod error;
+mod instruction;
+mod keyword;
+pub mod laws;
+mod names;
+mod program;
+mod statement;
+
+pub use error::ProgramError;
+pub use keyword::Keyword;
+pub use program::read_program;
+
+#[cfg(test)]
+mod tests;

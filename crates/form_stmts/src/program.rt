@@ -1,0 +1,142 @@
+ghost use Rattle.std.specs.Prelude.{◌≡◌, List, [], ◌∷◌, IfErr, IfOk, OnOk, IsTrue, IsNone, None, Option};
+ghost use Rattle.form_ast.specs.Lawful.{AreLawfulModules};
+ghost use Rattle.form_stmts.specs.Program.{IsProgram, IsRefusal, IsLexed, Lexed, statement, token as lexed_token, period, is_semicolon as is_semicolon_token, spot_of, first_spot as first_spot_of};
+ghost use Rattle.form_lines.specs.Text.{PhysicalLine};
+
+use crate::ProgramError;
+use crate::instruction::{begins_with_period, is_module_instruction};
+use crate::statement::read_statement;
+use form_ast::{Module, Placed};
+use form_base::Spot;
+use form_grammar::ReadError;
+use form_lexer::{Mark, Token, TokenKind, laws, lex};
+use form_lines::Line;
+use std::alloc::Global;
+use std::mem;
+
+/// A program while it is read.
+#[derive(Drop)]
+struct Reader {
+    /// The tokens of the statement that is begun.
+    tokens: Vec<Token>,
+    /// The statements of the module that is begun.
+    statements: Vec<Placed>,
+    modules: Vec<Module>,
+}
+
+fn is_semicolon(token: &Token) -> bool
+    ensures { result ≡ is_semicolon_token token.now }
+{
+    matches!(token.kind, TokenKind::Mark(Mark::Semicolon))
+}
+
+/// Where tokens begin.
+fn first_spot(tokens: &[Token]) -> Option<Spot>
+    ensures { result ≡ first_spot_of tokens.now }
+{
+    match tokens {
+        [first, ..] => Some(first.spot),
+        [] => None,
+    }
+}
+
+impl Reader {
+    ghost use Rattle.form_stmts.specs.Progress.{EndsStatement, IsRefusedItem, ReadTo, ReadsOn, Refuses, RefusesLine};
+
+    fn new(alloc: Global) -> Reader
+        ensures { ReadTo [] result }
+    {
+        Reader {
+            tokens: Vec::new(alloc),
+            statements: Vec::new(alloc),
+            modules: Vec::new(alloc),
+        }
+    }
+
+    /// Ends the statement that is begun.
+    fn end_statement(&mut self, alloc: Global) -> Result<(), ProgramError>
+        ensures ended { OnOk result (EndsStatement self.old self.new) }
+        ensures refused { IfErr result (λ error. IsRefusedItem (statement self.old.tokens.items) error) }
+    {
+        let tokens = mem::replace(&mut self.tokens, Vec::new(alloc));
+        let Some(spot) = first_spot(&tokens) else {
+            return Ok(());
+        };
+        match read_statement(alloc, tokens) {
+            Ok(statement) => {
+                self.statements.push(Placed { spot, statement })?;
+                Ok(())
+            }
+            Err(ReadError::BadSyntax) => Err(ProgramError::BadSyntax(spot)),
+            Err(ReadError::Memory) => Err(ProgramError::Memory),
+        }
+    }
+
+    fn take_token(&mut self, alloc: Global, token: Token) -> Result<(), ProgramError>
+        ensures read { OnOk result (ReadsOn self.old (lexed_token token ∷ []) self.new) }
+        ensures refused { IfErr result (λ error. Refuses self.old (lexed_token token ∷ []) error) }
+    {
+        if is_semicolon(&token) {
+            return self.end_statement(alloc);
+        }
+        self.tokens.push(token)?;
+        Ok(())
+    }
+
+    /// Ends the module that is begun, where the line is an instruction for that and no statement is begun.
+    fn take_instruction(&mut self, alloc: Global, line: &Line) -> Result<(), ProgramError>
+        ensures read { OnOk result (ReadsOn self.old (period line.now ∷ []) self.new) }
+        ensures refused { IfErr result (λ error. Refuses self.old (period line.now ∷ []) error) }
+    {
+        if let Some(spot) = first_spot(&self.tokens) {
+            return Err(ProgramError::BadSyntax(spot));
+        }
+        if !is_module_instruction(line.text().as_bytes()) {
+            return Err(ProgramError::BadSyntax(spot(line)));
+        }
+        let statements = mem::replace(&mut self.statements, Vec::new(alloc));
+        self.modules.push(Module::from_vec(statements))?;
+        Ok(())
+    }
+
+    fn take_line(&mut self, alloc: Global, line: &Line) -> Result<(), ProgramError>
+        ensures read { OnOk result ((here : List Lexed) × IsLexed line.now here × ReadsOn self.old here self.new) }
+        ensures refused { IfErr result (λ error. RefusesLine self.old line.now error) }
+    {
+        if begins_with_period(line.text().as_bytes()) {
+            return self.take_instruction(alloc, line);
+        }
+        let mut tokens = Vec::new(alloc);
+        lex(alloc, spot(line), line.text(), &mut tokens)?;
+        for token in tokens {
+            self.take_token(alloc, token)?;
+        }
+        Ok(())
+    }
+}
+
+/// Where the tokens of a line stand.
+fn spot(line: &Line) -> Spot
+    ensures { result ≡ spot_of line.now }
+{
+    Spot {
+        text: 0,
+        line: line.number(),
+    }
+}
+
+/// The modules of a program, up to the last instruction of its lines. The first refusal in the order of the text is
+/// answered.
+pub fn read_program(alloc: Global, lines: Vec<Line>) -> Result<Vec<Module>, ProgramError>
+    ensures program { IfOk result (λ modules. IsProgram lines.items modules.items) }
+    ensures lawful { IfOk result (λ modules. AreLawfulModules modules.items) }
+    ensures refused { IfErr result (λ error. IsRefusal error lines.items) }
+{
+    laws::one_list_of_tokens();
+    let mut reader = Reader::new(alloc);
+    for line in lines {
+        reader.take_line(alloc, &line)?;
+    }
+    let Reader { modules, .. } = reader;
+    Ok(modules)
+}

@@ -1,0 +1,96 @@
+ghost use Rattle.std.specs.Prelude.{◌≡◌, map, IfOk, IfErr, Some, None, if◌then◌else◌};
+ghost use Rattle.form_grammar.specs.Reading.{Excludes};
+ghost use Rattle.form_grammar.specs.Terminal.{terminal_of};
+ghost use Rattle.form_stmts.specs.Reading.{after_equals, front_name, terminals, with_rest};
+ghost use Rattle.form_stmts.specs.Statement.{FollowsKeyword, IsDefinition, IsStatement};
+
+use crate::keyword::{Keyword, keyword_of};
+use crate::names::{read_names, read_names_or_none};
+use form_ast::{Spelled, Statement};
+use form_grammar::{ReadError, Terminal, read_expr};
+use form_lexer::Token;
+use std::alloc::Global;
+use std::vec::IntoIter;
+
+/// Takes a name from the front.
+fn take_name(tokens: &mut IntoIter<Token>) -> Option<Spelled>
+    ensures { front_name (terminals tokens.old) ≡ with_rest result (terminals tokens.new) }
+{
+    match Terminal::from(tokens.next()?) {
+        Terminal::Name(name) => Some(name),
+        _ => None,
+    }
+}
+
+/// Takes a `=` from the front.
+fn take_equals(tokens: &mut IntoIter<Token>) -> bool
+    ensures { after_equals (terminals tokens.old) ≡ (if result then Some (terminals tokens.new) else None) }
+{
+    match tokens.next() {
+        Some(token) => matches!(Terminal::from(token), Terminal::Equals),
+        None => false,
+    }
+}
+
+/// A definition behind its keyword.
+fn read_definition(alloc: Global, tokens: IntoIter<Token>) -> Result<Statement, ReadError>
+    ensures found { IfOk result (λ statement. IsDefinition (terminals tokens) statement) }
+    ensures none { IfErr result (λ error. Excludes error (IsDefinition (terminals tokens))) }
+{
+    let mut tokens = tokens;
+    let Some(name) = take_name(&mut tokens) else {
+        return Err(ReadError::BadSyntax);
+    };
+    if !take_equals(&mut tokens) {
+        return Err(ReadError::BadSyntax);
+    }
+    match read_expr(alloc, tokens) {
+        Ok(expr) => Ok(Statement::Local(name, expr)),
+        Err(error) => Err(error),
+    }
+}
+
+/// What follows a keyword.
+fn read_behind(
+    alloc: Global,
+    keyword: Keyword,
+    tokens: IntoIter<Token>,
+) -> Result<Statement, ReadError>
+    ensures found { IfOk result (λ statement. FollowsKeyword keyword (terminals tokens) statement) }
+    ensures none { IfErr result (λ error. Excludes error (FollowsKeyword keyword (terminals tokens))) }
+{
+    match keyword {
+        Keyword::Symbols => match read_names(alloc, tokens) {
+            Ok(names) => Ok(Statement::Symbols(names)),
+            Err(error) => Err(error),
+        },
+        Keyword::Drop => match read_names_or_none(alloc, tokens) {
+            Ok(names) => Ok(Statement::Drop(names)),
+            Err(error) => Err(error),
+        },
+        Keyword::Skip => match read_names_or_none(alloc, tokens) {
+            Ok(names) => Ok(Statement::Skip(names)),
+            Err(error) => Err(error),
+        },
+        Keyword::Local => read_definition(alloc, tokens),
+        Keyword::Print => match read_names_or_none(alloc, tokens) {
+            Ok(names) => Ok(Statement::Print(names)),
+            Err(error) => Err(error),
+        },
+    }
+}
+
+/// The statement that the tokens are.
+pub fn read_statement(alloc: Global, tokens: Vec<Token>) -> Result<Statement, ReadError>
+    ensures found { IfOk result (λ statement. IsStatement (map terminal_of tokens.items) statement) }
+    ensures none { IfErr result (λ error. Excludes error (IsStatement (map terminal_of tokens.items))) }
+{
+    let mut tokens = tokens.into_iter();
+    let Some(first) = take_name(&mut tokens) else {
+        return Err(ReadError::BadSyntax);
+    };
+    match keyword_of(first.name.as_str()) {
+        Some(keyword) => read_behind(alloc, keyword, tokens),
+        None => Err(ReadError::BadSyntax),
+    }
+}

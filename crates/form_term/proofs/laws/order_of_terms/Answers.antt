@@ -1,0 +1,13 @@
+use Rattle.std.proofs.lemmas.Map.Lookups.{exact_signed}
+use Rattle.form_term.specs.Term.{exponent_of}
+use Rattle.form_term.specs.TermLaws.{order_total, equal_terms, first_difference}
+use Rattle.form_term.proofs.laws.order_of_terms.Goals as goal
+
+pub returns-clause-total : goal.returns-clause-total
+returns-clause-total c = order_total
+
+pub returns-clause-equal : goal.returns-clause-equal
+returns-clause-equal c = equal_terms
+
+pub returns-clause-first : goal.returns-clause-first
+returns-clause-first c = λ t u first agree differ. first_difference t u first agree (λ e. differ (exact_signed (exponent_of t first) (exponent_of u first) e))

@@ -1,0 +1,4 @@
+pub mod Monomial
+pub mod PowerLaws
+pub mod Term
+pub mod TermLaws

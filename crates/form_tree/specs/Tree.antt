@@ -1,0 +1,45 @@
+-- Right sides as trees, and the pieces that such a tree is kept as.
+use Rattle.std.specs.Prelude.{ℕ, ℤ, Bool, true, false, List, [], ◌∷◌, ◌++◌}
+use Rattle.form_tree.specs.declared.tree.Link.{Link}
+use Rattle.form_tree.specs.declared.tree.Link.TheVariants.{Plus, Minus, Times}
+use Rattle.form_tree.specs.declared.tree.Piece.{Piece}
+use Rattle.form_tree.specs.declared.tree.Piece.TheVariants as pieces
+
+mutual
+  -- products, each added, or subtracted where the mark says that there is a minus
+  pub data Sum : Type 0 where
+    first : (is_minus : Bool) → Product → Sum
+    more : Sum → (is_minus : Bool) → Product → Sum
+
+  -- factors in a row
+  pub data Product : Type 0 where
+    one : Factor → Product
+    times : Product → Factor → Product
+
+  -- A whole number, a symbol, a stored expression or a sum, to a power. What is divided by has a negative power.
+  pub data Factor : Type 0 where
+    number : (value : ℕ) (power : ℤ) → Factor
+    symbol : (position : ℕ) (power : ℤ) → Factor
+    stored : (position : ℕ) (power : ℕ) → Factor
+    parenthesis : Sum → (power : ℕ) → Factor
+
+-- how the first factor of a product stands to what is before it
+abbrev pub link_of : Bool → Link
+link_of true = Minus
+link_of false = Plus
+
+-- the pieces of a tree, in the order of the text
+abbrev mutual
+  pub pieces_of_sum : Sum → List Piece
+  pieces_of_sum (first is_minus p) = pieces_of_product (link_of is_minus) p
+  pieces_of_sum (more s is_minus p) = pieces_of_sum s ++ pieces_of_product (link_of is_minus) p
+
+  pub pieces_of_product : Link → Product → List Piece
+  pieces_of_product link (one f) = pieces_of_factor link f
+  pieces_of_product link (times p f) = pieces_of_product link p ++ pieces_of_factor Times f
+
+  pub pieces_of_factor : Link → Factor → List Piece
+  pieces_of_factor link (number value power) = pieces.Number link value power ∷ []
+  pieces_of_factor link (symbol position power) = pieces.Symbol link position power ∷ []
+  pieces_of_factor link (stored position power) = pieces.Stored link position power ∷ []
+  pieces_of_factor link (parenthesis s power) = pieces.Open link ∷ pieces_of_sum s ++ pieces.Close power ∷ []

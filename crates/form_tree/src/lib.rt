@@ -1,0 +1,6 @@
+//! Right sides as they are carried out: every name stands as its Id, and a division as a negative power.
+#![tactic(auto)]
+
+mod tree;
+
+pub use tree::{Link, Piece, Tree};

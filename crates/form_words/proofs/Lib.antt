@@ -1,0 +1,4 @@
+mod Added
+mod Decimal
+mod Made
+mod Taken
