@@ -1,53 +1,31 @@
 -- How far a call came with its outcome, at each of its ends.
-use Rattle.std.proofs.Common.{◌≡◌, ◌≢◌, ◌≤◌, ◌<◌, ℕ, arith, List, [], ◌++◌, length, Option, Some, None, IfSome, MatchOption, MatchBool, Result, Ok, Err, true, false, Bool, nat_lt, sym, subst, ap, ◌∙◌, refl, inl, inr}
+use Rattle.std.proofs.Common.{◌≡◌, ◌≢◌, ◌≤◌, ◌<◌, ℕ, arith, List, [], ◌++◌, length, take, Option, Some, None, IfSome, Result, Ok, Err, sym, subst, ap, ◌∙◌, refl, inl, inr}
 use Rattle.std.specs.Prelude.{⊤}
 use Rattle.std.proofs.lemmas.List.{append-nil}
 use Rattle.std.proofs.Math.Seq.{take-nil, take-length}
-use Rattle.form_base.specs.declared.cause.Cause.TheVariants.{BadSyntax}
-use Rattle.form_base.specs.declared.place.Place.TheVariants.{Line}
 use Rattle.form_base.specs.declared.status.Status.{Status}
-use Rattle.form_base.specs.declared.status.Status.TheVariants.{Usage, Missing, TextTooLong, RefusedText}
 use Rattle.form_outside.specs.Faults.{HasRisen, last_count}
 use Rattle.form_outside.specs.declared.sink.SinkErr.{SinkErr}
-use Rattle.form_outside.specs.declared.sink.SinkErr.TheVariants as errors
 use Rattle.form_outside.specs.Taken.{Takes}
-use Rattle.form_outside.specs.Texts.{Texts, text_of}
+use Rattle.form_outside.specs.Texts.{Texts}
+use Rattle.form_engine.specs.Answer.{IsAnswerOutcome, Carries, nothing_more}
 use Rattle.form_engine.specs.Call.{IsStop, FollowsOutcome}
-use Rattle.form_engine.specs.Outcome.{Outcome, IsOutcome, IsFileOutcome, IsTextOutcome, refused, program_outcome, longest_text}
-use Rattle.form_engine.specs.Stop.{status_of, stop_of_sink}
+use Rattle.form_engine.specs.Outcome.{Outcome, IsOutcome}
+use Rattle.form_engine.specs.Stop.{status_of, ending}
+use Rattle.form_engine.specs.declared.answer.Answer.{Answer}
 use Rattle.form_engine.specs.declared.stop.Stop.{Stop}
 use Rattle.form_engine.specs.declared.stop.Stop.TheVariants.{Library, Sink, Memory}
-use Rattle.form_engine.specs.Words.{file_of}
-use Rattle.form_engine.proofs.Reading.{program_or_none}
-
-text_outcome : (file text : List ℕ) → (o : Outcome) × IsTextOutcome file text o
-text_outcome file text = elim (program_or_none text) [
-  | inl found ↦ (program_outcome found.0, inl (found.0, found.1, refl))
-  | inr none ↦ (refused (RefusedText BadSyntax (Line file 1)), inr (none, refl))
-]
-
-long_or_not : (b : Bool) (file text : List ℕ) → (o : Outcome) × MatchBool b (o ≡ refused (TextTooLong file)) (IsTextOutcome file text o)
-long_or_not true file text = (refused (TextTooLong file), refl)
-long_or_not false file text = text_outcome file text
-
-file_outcome : (file : List ℕ) (here : Option (List ℕ)) → (o : Outcome) × IsFileOutcome file here o
-file_outcome file None = (refused (Missing file), refl)
-file_outcome file (Some text) = long_or_not (nat_lt longest_text (length text)) file text
-
-words_outcome : (file : Option (List ℕ)) (texts : Texts) → (o : Outcome) × MatchOption file (o ≡ refused Usage) (λ file. IsFileOutcome file (text_of texts file) o)
-words_outcome None texts = (refused Usage, refl)
-words_outcome (Some file) texts = file_outcome file (text_of texts file)
 
 -- words and texts have an outcome
-pub some_outcome : (words : List (List ℕ)) (texts : Texts) → (o : Outcome) × IsOutcome words texts o
-some_outcome words texts = words_outcome (file_of words) texts
+abbrev pub HasOutcome : Type 0
+HasOutcome = (words : List (List ℕ)) (texts : Texts) → (o : Outcome) × IsOutcome words texts o
 
 -- the call was stopped before anything was written
-pub stopped_before : (words : List (List ℕ)) (texts : Option Texts) (old new : Option (List ℕ)) (status : Status) (stop : Type 0) → new ≡ old → stop → FollowsOutcome words texts old new status stop
-stopped_before words None old new status stop same why = tt
-stopped_before words (Some all) None new status stop same why = tt
-stopped_before words (Some all) (Some taken) new status stop same why =
-    let o = some_outcome words all in
+pub stopped_before : HasOutcome → (words : List (List ℕ)) (texts : Option Texts) (old new : Option (List ℕ)) (status : Status) (stop : Type 0) → new ≡ old → stop → FollowsOutcome words texts old new status stop
+stopped_before has words None old new status stop same why = tt
+stopped_before has words (Some all) None new status stop same why = tt
+stopped_before has words (Some all) (Some taken) new status stop same why =
+    let o = has words all in
     (o.0, o.1, inr (record { count = 0; front = same ∙ ap Some (sym (append-nil taken)); why = why }))
 
 -- the call was stopped while it wrote
@@ -83,7 +61,7 @@ stopped_because words (Some all) (Some taken) new status stop other why h =
     (h.0, h.1, elim h.2 [ inl done ↦ inl done | inr early ↦ inr (record { count = early.count; front = early.front; why = why early.why }) ])
 
 -- a count that rose, and doesn't stand at its last value at first, is greater at the end
-risen : (old new : ℕ) → HasRisen old new → old ≢ last_count → old ≤ new → old < new
+pub risen : (old new : ℕ) → HasRisen old new → old ≢ last_count → old ≤ new → old < new
 risen old new (inl more) below grows = more
 risen old new (inr last) below grows = omega arith
 
@@ -98,10 +76,36 @@ library_stop A sink old new Library rose never below grows = risen old new (rose
 library_stop A sink old new Sink rose never below grows = absurd (never refl)
 library_stop A sink old new Memory rose never below grows = tt
 
--- what stopped a call of the sink has its cause
-pub sink_stop : (library : Type 0) (before old new : ℕ) (error : SinkErr) → (error_of ⊤ error ≡ Err errors.Failed → HasRisen old new) → before ≢ last_count → before ≤ old → old ≤ new
-    → IsStop library (before < new) (λ store. ⊥) (status_of (stop_of_sink error))
-sink_stop library before old new errors.Failed rose below first grows =
-    let rises : HasRisen old new = rose refl in
-    elim rises [ inl more ↦ omega arith | inr last ↦ omega arith ]
-sink_stop library before old new errors.Memory rose below first grows = tt
+-- what stopped it while it wrote has its cause
+pub sink_stop : (A library : Type 0) (old new : ℕ) (early : Stop) → (error_of A early ≡ Err Sink → HasRisen old new) → error_of A early ≢ Err Library → old ≢ last_count → old ≤ new
+    → IsStop library (old < new) (λ store. ⊥) (status_of early)
+sink_stop A library old new Library rose never below grows = absurd (never refl)
+sink_stop A library old new Sink rose never below grows = risen old new (rose refl) below grows
+sink_stop A library old new Memory rose never below grows = tt
+
+-- where the library tells its texts, each outcome of an answer is that of the words
+abbrev pub Decides : List (List ℕ) → Option Texts → Answer → Type 0
+Decides words texts answer = IfSome texts (λ all. (o : Outcome) → IsAnswerOutcome answer o → IsOutcome words all o)
+
+pub decided : (words : List (List ℕ)) (texts : Option Texts) (answer : Answer) (o : Outcome) → Decides words texts answer → IsAnswerOutcome answer o → IfSome texts (λ all. IsOutcome words all o)
+decided words None answer o h is = tt
+decided words (Some all) answer o h is = h o is
+
+-- so there is an outcome of the status that was answered
+pub decided_status : (words : List (List ℕ)) (texts : Option Texts) (answer : Answer) (o : Outcome) (status : Status) → Decides words texts answer → IsAnswerOutcome answer o → status ≡ o.status →
+    IfSome texts (λ all. (bytes : List ℕ) × IsOutcome words all (record { bytes = bytes; status = status }))
+decided_status words None answer o status h is e = tt
+decided_status words (Some all) answer o status h is e = (o.bytes, subst (λ (s : Status). IsOutcome words all (record { bytes = o.bytes; status = s })) (sym e) (h o is))
+
+-- it was written, and then the sink was finished, or not
+pub finished : (words : List (List ℕ)) (texts : Option Texts) (answer : Answer) (o : Outcome) (old mid new : Option (List ℕ)) (status : Status) (result : Result Status Stop) (stop : Type 0) →
+    Decides words texts answer → IsAnswerOutcome answer o → Carries old o mid (Ok status) → Carries mid (nothing_more status) new result →
+    ((early : Stop) → result ≡ Err early → stop) → FollowsOutcome words texts old new (ending result) stop
+finished words texts answer o old mid new status (Ok answered) stop h is put end why =
+    carried_out SinkErr words texts old mid new o tt tt answered stop (decided words texts answer o h is) put.0 end.0 (end.1 ∙ put.1)
+finished words texts answer o old mid new status (Err early) stop h is put end why =
+    stopped_at_end words texts old mid new o tt early (status_of early) stop (decided words texts answer o h is) (as_stop old o.bytes mid put.0) end (why early refl)
+  where
+    as_stop : (a : Option (List ℕ)) (p : List ℕ) (b : Option (List ℕ)) → Takes {E = SinkErr} a p b (Ok tt) → Takes {E = Stop} a p b (Ok tt)
+    as_stop None p b h = tt
+    as_stop (Some old) p b h = h

@@ -7,7 +7,7 @@ use Rattle.form_base.specs.declared.status.Status.TheVariants.{Done, Usage, Miss
 use Rattle.form_outside.specs.Texts.{Texts}
 use Rattle.form_engine.specs.Call.{FollowsOutcome, IsStop, IsCarriedOut}
 use Rattle.form_engine.specs.Outcome.{Outcome, IsOutcome, refused}
-use Rattle.form_engine.proofs.Unique.{one_outcome, done_or_refused}
+use Rattle.form_engine.proofs.Refusals.{run_or_refused}
 
 -- where neither count rose, only want of memory stops a call
 pub only_memory : (library sink : Type 0) (status : Status) → (library → ⊥) → (sink → ⊥) → IsStop library sink (λ store. ⊥) status → status ≡ OutOfMemory
@@ -37,18 +37,23 @@ whatever_stores library sink store (RefusedText cause place) stop = absurd stop
 whatever_stores library sink store (RefusedRun cause place) stop = absurd stop
 whatever_stores library sink store (StoreDamaged s run place kept found) stop = absurd stop
 
+-- words and texts have at most one outcome
+abbrev pub OneOutcome : Type 0
+OneOutcome = (words : List (List ℕ)) (texts : Texts) (o p : Outcome) → IsOutcome words texts o → IsOutcome words texts p → o ≡ p
+
 -- the outcome, whichever is meant, was carried out, where only want of memory could have stopped the call
-pub carried_out_or_memory : (words : List (List ℕ)) (texts : Option Texts) (old new : Option (List ℕ)) (status : Status) (stop : Type 0) → (stop → status ≡ OutOfMemory) → FollowsOutcome words texts old new status stop
+pub carried_out_or_memory : OneOutcome → (words : List (List ℕ)) (texts : Option Texts) (old new : Option (List ℕ)) (status : Status) (stop : Type 0) → (stop → status ≡ OutOfMemory) → FollowsOutcome words texts old new status stop
     → IfSome texts (λ all. IfSome old (λ taken. (outcome : Outcome) → IsOutcome words all outcome → IsCarriedOut outcome taken new status ⊎ (status ≡ OutOfMemory)))
-carried_out_or_memory words None old new status stop memory h = tt
-carried_out_or_memory words (Some all) None new status stop memory h = tt
-carried_out_or_memory words (Some all) (Some taken) new status stop memory h = λ outcome is.
-    let same : h.0 ≡ outcome = one_outcome words all h.0 outcome h.1 is in
+carried_out_or_memory one words None old new status stop memory h = tt
+carried_out_or_memory one words (Some all) None new status stop memory h = tt
+carried_out_or_memory one words (Some all) (Some taken) new status stop memory h = λ outcome is.
+    let same : h.0 ≡ outcome = one words all h.0 outcome h.1 is in
     elim h.2 [ inl done ↦ inl (subst (λ (o : Outcome). IsCarriedOut o taken new status) same done) | inr early ↦ inr (memory early.why) ]
 
-refusal_at : (words : List (List ℕ)) (all : Texts) (o : Outcome) (refusal : Status) → IsOutcome words all o → o.status ≡ refusal → refusal ≢ Done → IsOutcome words all (refused refusal)
-refusal_at words all o refusal is e not_done = elim (done_or_refused words all o is) [
-  | inl done ↦ absurd (not_done (sym e ∙ done))
+text_refusal_at : (words : List (List ℕ)) (all : Texts) (o : Outcome) (cause : Cause) (place : Place) → IsOutcome words all o → o.status ≡ RefusedText cause place → IsOutcome words all (refused (RefusedText cause place))
+text_refusal_at words all o cause place is e = elim (run_or_refused words all o is) [
+  | inl (inl done) ↦ cc
+  | inl (inr run) ↦ let status = run.2 in cc
   | inr line ↦ subst (λ (p : Outcome). IsOutcome words all p) (line ∙ ap refused e) is
 ]
 
@@ -60,10 +65,10 @@ Decided words texts status = IfSome texts (λ all. (bytes : List ℕ) × IsOutco
 pub text_refusal : (words : List (List ℕ)) (texts : Option Texts) (status : Status) → Decided words texts status
     → IfSome texts (λ all. (cause : Cause) (place : Place) → status ≡ RefusedText cause place → IsOutcome words all (refused (RefusedText cause place)))
 text_refusal words None status h = tt
-text_refusal words (Some all) status h = λ cause place e. refusal_at words all (record { bytes = h.0; status = status }) (RefusedText cause place) h.1 e (λ q. cc)
+text_refusal words (Some all) status h = λ cause place e. text_refusal_at words all (record { bytes = h.0; status = status }) cause place h.1 e
 
--- a refusal of the run that is answered is the outcome
-pub run_refusal : (words : List (List ℕ)) (texts : Option Texts) (status : Status) → Decided words texts status
-    → IfSome texts (λ all. (cause : Cause) (place : Place) → status ≡ RefusedRun cause place → IsOutcome words all (refused (RefusedRun cause place)))
-run_refusal words None status h = tt
-run_refusal words (Some all) status h = λ cause place e. refusal_at words all (record { bytes = h.0; status = status }) (RefusedRun cause place) h.1 e (λ q. cc)
+-- what was decided, of a status that is answered
+pub of_status : (words : List (List ℕ)) (texts : Option Texts) (status : Status) → Decided words texts status
+    → IfSome texts (λ all. (cause : Cause) (place : Place) → status ≡ RefusedRun cause place → (bytes : List ℕ) × IsOutcome words all (record { bytes = bytes; status = RefusedRun cause place }))
+of_status words None status h = tt
+of_status words (Some all) status h = λ cause place e. (h.0, subst (λ (s : Status). IsOutcome words all (record { bytes = h.0; status = s })) e h.1)

@@ -1,20 +1,30 @@
 -- The outcome of a call: what it writes, and how it ends.
-use Rattle.std.specs.Prelude.{◌≡◌, ◌⊎◌, ℕ, ◌∷◌, [], ◌++◌, List, length, Option, Some, None, Result, Ok, Err, nat_lt, if◌then◌else◌, MatchBool, MatchOption}
+use Rattle.std.specs.Prelude.{◌≡◌, ◌⊎◌, ℕ, suc, ◌∷◌, [], ◌++◌, List, length, map, flat_map, Option, Some, None, Result, Ok, Err, Bool, nat_lt, if◌then◌else◌, MatchBool, MatchOption, MatchResult}
+use Rattle.std.specs.List.{list_any}
 use Rattle.form_base.specs.declared.cause.Cause.{Cause}
-use Rattle.form_base.specs.declared.cause.Cause.TheVariants.{BadSyntax, ExpandLimit, Overflow}
+use Rattle.form_base.specs.declared.cause.Cause.TheVariants.{BadSyntax}
 use Rattle.form_base.specs.declared.place.Place.TheVariants.{Line, Run}
+use Rattle.form_base.specs.declared.settings.Settings.{Settings}
+use Rattle.form_base.specs.declared.spot.Spot.{Spot}
 use Rattle.form_base.specs.declared.status.Status.{Status}
 use Rattle.form_base.specs.declared.status.Status.TheVariants.{Done, Usage, Missing, TextTooLong, RefusedText, RefusedRun}
-use Rattle.form_base.specs.declared.name.Name.{Name}
-use Rattle.form_base.specs.Settings.{default_settings}
 use Rattle.form_base.specs.Status.{status_text}
 use Rattle.form_outside.specs.Texts as library
-use Rattle.form_engine.specs.Monomial.{Monomial}
-use Rattle.form_engine.specs.Expression.{list_of}
-use Rattle.form_engine.specs.Collecting.{collected}
-use Rattle.form_engine.specs.Printing.{printed}
-use Rattle.form_engine.specs.Text.{Program, IsProgram}
-use Rattle.form_engine.specs.Words.{file_of}
+use Rattle.form_words.specs.declared.job.Job.{Job}
+use Rattle.form_words.specs.Words.{job_of}
+use Rattle.form_lines.specs.Program.{program_lines}
+use Rattle.form_lines.specs.Text.{PhysicalLine}
+use Rattle.form_names.specs.Names.{Entry}
+use Rattle.form_ast.specs.declared.statement.Placed.{Placed}
+use Rattle.form_stmts.specs.Program.{IsProgram, IsRefused}
+use Rattle.form_check.specs.declared.checked.Checked.{Checked}
+use Rattle.form_check.specs.Checking.{program}
+use Rattle.form_check.specs.Program.{Program}
+use Rattle.form_check.specs.Refusal as text
+use Rattle.form_expand.specs.declared.stored.Stored.{Stored}
+use Rattle.form_module.specs.Module.{Refusal, IsModuleOutcome}
+use Rattle.form_print.specs.Printing.{name_of, printed}
+use Rattle.form_engine.specs.Printed.{printed_module}
 
 pub record Outcome : Type 0 where
   pub bytes : List ℕ
@@ -24,40 +34,58 @@ pub record Outcome : Type 0 where
 abbrev pub longest_text : ℕ
 longest_text = 16777216
 
--- the collected terms, or Overflow
-abbrev pub or_overflow : Option (List Monomial) → Result (List Monomial) Cause
-or_overflow None = Err Overflow
-or_overflow (Some terms) = Ok terms
-
--- the result of a list: ExpandLimit where it has more terms than may be made, else it is collected
-abbrev pub result_of : List Monomial → Result (List Monomial) Cause
-result_of list = if nat_lt default_settings.max_expand (length list) then Err ExpandLimit else or_overflow (collected list)
-
 -- a refusal: its line
 abbrev pub refused : Status → Outcome
 refused status = record { bytes = status_text status ++ 10 ∷ []; status = status }
 
--- the one module of a program, whose result prints or is refused
-abbrev pub module_outcome : List Name → Name → Result (List Monomial) Cause → Outcome
-module_outcome symbols name (Ok terms) = record { bytes = printed symbols name terms; status = Done }
-module_outcome symbols name (Err cause) = refused (RefusedRun cause (Run 1 name))
+-- all was carried out
+abbrev pub done : Outcome
+done = record { bytes = []; status = Done }
 
-abbrev pub program_outcome : Program → Outcome
-program_outcome p = module_outcome p.symbols p.name (result_of (list_of (length p.symbols) p.expression))
+-- what was printed before an outcome
+abbrev pub behind : List ℕ → Outcome → Outcome
+behind bytes outcome = record { bytes = bytes ++ outcome.bytes; status = outcome.status }
 
--- the outcome of a text under this name: that of its program, or BadSyntax at line 1 where it is none
-abbrev pub IsTextOutcome : List ℕ → List ℕ → Outcome → Type 0
-IsTextOutcome file text outcome =
-    ((program : Program) × IsProgram text program × (outcome ≡ program_outcome program))
-    ⊎ (((program : Program) → IsProgram text program → ⊥) × (outcome ≡ refused (RefusedText BadSyntax (Line file 1))))
+-- The modules from this number on, over the expressions that stand: each prints, up to the first that is refused.
+abbrev pub AreCarriedOut : Settings → List Entry → ℕ → List (List Checked) → List Stored → Outcome → Type 0
+AreCarriedOut settings names number [] standing outcome = outcome ≡ done
+AreCarriedOut settings names number (m ∷ ms) standing outcome =
+    ((refusal : Refusal) × IsModuleOutcome settings m standing (Err refusal)
+    × (outcome ≡ refused (RefusedRun refusal.cause (Run number (name_of names refusal.expression)))))
+    ⊎ ((after : List Stored) × (rest : Outcome) × IsModuleOutcome settings m standing (Ok after)
+    × AreCarriedOut settings names (suc number) ms after rest × (outcome ≡ behind (printed_module names m after) rest))
+
+-- the outcome of a program: its modules from no expressions
+abbrev pub IsProgramOutcome : Settings → Program → Outcome → Type 0
+IsProgramOutcome settings p outcome = AreCarriedOut settings p.names 1 p.modules [] outcome
+
+-- a refusal of the text of this name
+abbrev pub refused_at : List ℕ → Cause → ℕ → Outcome
+refused_at file cause line = refused (RefusedText cause (Line file line))
+
+-- the outcome of statements: the first refusal in the order of the text, or that of the program
+abbrev pub AreStatements : Job → List (List Placed) → Outcome → Type 0
+AreStatements job modules outcome =
+    MatchResult (program modules) (λ p. IsProgramOutcome job.settings p outcome) (λ refusal. outcome ≡ refused_at job.file refusal.cause refusal.spot.line)
+
+-- the outcome of lines: BadSyntax at the first statement outside the grammar, or that of the statements
+abbrev pub AreLines : Job → List PhysicalLine → Outcome → Type 0
+AreLines job lines outcome =
+    ((spot : Spot) × IsRefused lines spot × (outcome ≡ refused_at job.file BadSyntax spot.line))
+    ⊎ ((modules : List (List Placed)) × IsProgram lines modules × AreStatements job modules outcome)
+
+-- the outcome of a text: the refusal of a line, or that of its lines
+abbrev pub IsTextOutcome : Job → List ℕ → Outcome → Type 0
+IsTextOutcome job text outcome =
+    MatchResult (program_lines text) (λ lines. AreLines job lines outcome) (λ refusal. outcome ≡ refused_at job.file refusal.0 refusal.1)
 
 -- the outcome where this stands under the name of FILE
-abbrev pub IsFileOutcome : List ℕ → Option (List ℕ) → Outcome → Type 0
-IsFileOutcome file None outcome = outcome ≡ refused (Missing file)
-IsFileOutcome file (Some text) outcome =
-    MatchBool (nat_lt longest_text (length text)) (outcome ≡ refused (TextTooLong file)) (IsTextOutcome file text outcome)
+abbrev pub IsFileOutcome : Job → Option (List ℕ) → Outcome → Type 0
+IsFileOutcome job None outcome = outcome ≡ refused (Missing job.file)
+IsFileOutcome job (Some text) outcome =
+    MatchBool (nat_lt longest_text (length text)) (outcome ≡ refused (TextTooLong job.file)) (IsTextOutcome job text outcome)
 
 -- The outcome of words and a library's texts.
 abbrev pub IsOutcome : List (List ℕ) → library.Texts → Outcome → Type 0
 IsOutcome words texts outcome =
-    MatchOption (file_of words) (outcome ≡ refused Usage) (λ file. IsFileOutcome file (library.text_of texts file) outcome)
+    MatchOption (job_of words) (outcome ≡ refused Usage) (λ job. IsFileOutcome job (library.text_of texts job.file) outcome)

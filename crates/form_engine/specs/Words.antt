@@ -1,11 +1,7 @@
--- The words of a command line.
-use Rattle.std.specs.Prelude.{ℕ, Bool, false, List, [], ◌∷◌, Option, Some, None, ◌==◌, if◌then◌else◌}
+-- The file that the words of a command line name.
+use Rattle.std.specs.Prelude.{ℕ, List, Option, option_map}
+use Rattle.form_words.specs.Words.{job_of}
 
-abbrev pub begins_with_dash : List ℕ → Bool
-begins_with_dash [] = false
-begins_with_dash (c ∷ cs) = c == 45
-
--- the text that a command line names: it is the program's own name and one word that doesn't begin with `-`; none where the words are no command line
+-- the name of FILE; none where the words are no command line
 abbrev pub file_of : List (List ℕ) → Option (List ℕ)
-file_of (program ∷ file ∷ []) = if begins_with_dash file then None else Some file
-file_of words = None
+file_of words = option_map (λ job. job.file) (job_of words)

@@ -1,54 +1,49 @@
-ghost use Rattle.std.specs.Prelude.{◌≡◌, ◌≢◌, ◌≤◌, true, Err};
+ghost use Rattle.std.specs.Prelude.{◌≡◌, ◌≢◌, ◌≤◌, ◌++◌, true, Err};
 ghost use Rattle.form_outside.specs.Faults.{HasRisen};
 ghost use Rattle.form_outside.specs.Taken.{Takes};
-ghost use Rattle.form_engine.specs.Outcome.{refused};
+ghost use Rattle.form_engine.specs.Outcome.{Outcome, refused};
 
-use crate::monomial::Monomial;
-use crate::print::print_expression;
-use crate::program::Program;
-use form_base::Status;
+use crate::carry::carry_out;
+use crate::stop::Stop;
+use form_base::{Settings, Status};
+use form_check::Program;
 use form_outside::{Sink, SinkErr};
 use std::alloc::Global;
 
-/// What a call is to write, as its words and the library's text decide it.
+/// What a call is to do, as its words and the library's text decide it.
 #[derive(Drop)]
 pub enum Answer {
-    /// The collected terms of the program's expression.
-    Printed(Program, Vec<Monomial>),
+    /// To carry out this program.
+    Runs(Settings, Program),
     Refused(Status),
 }
 
 impl Answer {
-    ghost use Rattle.form_engine.specs.Answer.{outcome_of};
+    ghost use Rattle.form_engine.specs.Answer.{Carries, IsAnswerOutcome, IsSoundAnswer};
 
-    /// Puts the printed module, or the line of the refusal, into the sink.
-    pub fn write<O: Sink>(&self, alloc: Global, out: &mut O) -> Result<(), SinkErr>
-        ensures taken { Takes (O.taken out.old) (outcome_of self.now).bytes (O.taken out.new) result }
-        ensures failed { result ≡ Err SinkErr.Failed → HasRisen (O.faults out.old) (O.faults out.new) }
-        ensures not_risen { result ≢ Err SinkErr.Failed → O.faults out.new ≡ O.faults out.old }
+    /// Carries the program out, or puts the line of the refusal into the sink. Answers the status.
+    pub fn carry_out<O: Sink>(self, alloc: Global, out: &mut O) -> Result<Status, Stop>
+        requires { IsSoundAnswer self }
+        ensures carried { (outcome : Outcome) × IsAnswerOutcome self outcome
+            × Carries (O.taken out.old) outcome (O.taken out.new) result }
+        ensures never_library { result ≢ Err Stop.Library }
+        ensures failed { result ≡ Err Stop.Sink → HasRisen (O.faults out.old) (O.faults out.new) }
+        ensures not_risen { result ≢ Err Stop.Sink → O.faults out.new ≡ O.faults out.old }
         ensures never_falls { O.faults out.old ≤ O.faults out.new }
         ensures unfinished { O.is_finished out.new ≡ true → O.is_finished out.old ≡ true }
     {
         match self {
-            Answer::Printed(program, terms) => {
-                print_expression(alloc, out, &program.symbols, &program.name, terms)
+            Answer::Runs(settings, program) => carry_out(alloc, &settings, &program, out),
+            Answer::Refused(status) => {
+                write_refusal(alloc, &status, out)?;
+                Ok(status)
             }
-            Answer::Refused(status) => write_refusal(alloc, status, out),
-        }
-    }
-
-    pub fn into_status(self) -> Status
-        ensures { result ≡ (outcome_of self).status }
-    {
-        match self {
-            Answer::Printed(_, _) => Status::Done,
-            Answer::Refused(status) => status,
         }
     }
 }
 
 /// Puts the line of a refusal into the sink.
-fn write_refusal<O: Sink>(alloc: Global, status: &Status, out: &mut O) -> Result<(), SinkErr>
+pub fn write_refusal<O: Sink>(alloc: Global, status: &Status, out: &mut O) -> Result<(), SinkErr>
     ensures taken { Takes (O.taken out.old) (refused status.now).bytes (O.taken out.new) result }
     ensures failed { result ≡ Err SinkErr.Failed → HasRisen (O.faults out.old) (O.faults out.new) }
     ensures not_risen { result ≢ Err SinkErr.Failed → O.faults out.new ≡ O.faults out.old }

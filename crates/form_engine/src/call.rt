@@ -6,12 +6,14 @@ ghost use Rattle.form_base.specs.declared.status.Status.TheVariants.{Done, Usage
 ghost use Rattle.form_outside.specs.Faults.{last_count, HasRisen};
 ghost use Rattle.form_outside.specs.Runs.{HasNoLiveRun};
 ghost use Rattle.form_outside.specs.Texts.{text_of};
+ghost use Rattle.form_engine.specs.Answer.{Carries, nothing_more};
 ghost use Rattle.form_engine.specs.Call.{bytes_of_words, IsStop, HasStoreRisen, FollowsOutcome, IsCarriedOut};
 ghost use Rattle.form_engine.specs.Outcome.{Outcome, IsOutcome, refused, longest_text};
 ghost use Rattle.form_engine.specs.Stop.{ending};
 ghost use Rattle.form_engine.specs.Words.{file_of};
 
 use crate::decide::decide;
+use crate::laws::one_outcome;
 use crate::stop::Stop;
 use form_base::Status;
 use form_outside::{Gate, Library, Sink, Store};
@@ -76,7 +78,8 @@ pub fn tform<R: Threads + Wait, L: Library, O: Sink, S: Store + Send, G: Gate + 
         IsOutcome (bytes_of_words words.now) texts (refused (RefusedText cause place))) }
     ensures refused_run { IfSome (L.texts library.old) (λ texts.
         (cause : Cause) (place : Place) → result ≡ RefusedRun cause place →
-        IsOutcome (bytes_of_words words.now) texts (refused (RefusedRun cause place))) }
+        (bytes : List ℕ) × IsOutcome (bytes_of_words words.now) texts
+        (record { bytes = bytes; status = RefusedRun cause place })) }
     ensures done { IfSome (L.texts library.old) (λ texts. result ≡ Done →
         (bytes : List ℕ)
         × IsOutcome (bytes_of_words words.now) texts (record { bytes = bytes; status = Done })) }
@@ -98,6 +101,7 @@ pub fn tform<R: Threads + Wait, L: Library, O: Sink, S: Store + Send, G: Gate + 
     ensures same_texts { L.texts library.new ≡ L.texts library.old }
     ensures same_stores { stores.new ≡ stores.old }
 {
+    one_outcome();
     let _ = rt;
     let _ = gate;
     match run(alloc, words, library, out) {
@@ -139,8 +143,24 @@ fn run<L: Library, O: Sink>(
     ensures unfinished { OnErr result (O.is_finished out.new ≡ true → O.is_finished out.old ≡ true) }
     ensures same_texts { L.texts library.new ≡ L.texts library.old }
 {
+    one_outcome();
     let answer = decide(alloc, words, library)?;
-    answer.write(alloc, out)?;
-    out.finish(alloc)?;
-    Ok(answer.into_status())
+    let status = answer.carry_out(alloc, out)?;
+    finish(alloc, out, status)
+}
+
+/// Finishes the sink, and then answers the status.
+fn finish<O: Sink>(alloc: Global, out: &mut O, status: Status) -> Result<Status, Stop>
+    ensures carried { Carries (O.taken out.old) (nothing_more status) (O.taken out.new) result }
+    ensures never_library { result ≢ Err Stop.Library }
+    ensures failed { result ≡ Err Stop.Sink → HasRisen (O.faults out.old) (O.faults out.new) }
+    ensures not_risen { result ≢ Err Stop.Sink → O.faults out.new ≡ O.faults out.old }
+    ensures never_falls { O.faults out.old ≤ O.faults out.new }
+    ensures finished { OnOk result (O.is_finished out.new ≡ true) }
+    ensures unfinished { OnErr result (O.is_finished out.new ≡ true → O.is_finished out.old ≡ true) }
+{
+    match out.finish(alloc) {
+        Ok(()) => Ok(status),
+        Err(error) => Err(Stop::from(error)),
+    }
 }

@@ -3,16 +3,9 @@
 
 mod answer;
 mod call;
+mod carry;
 mod decide;
-mod evaluate;
-mod expand;
 pub mod laws;
-mod monomial;
-mod print;
-mod program;
-mod reader;
 mod stop;
-mod totals;
-mod words;
 
 pub use call::tform;

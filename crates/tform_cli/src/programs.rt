@@ -104,25 +104,10 @@ fn a_square_prints(rt: HostRuntime) -> Result<(), Fail> {
 }
 
 #[test]
-fn a_letter_minus_itself_prints_zero(rt: HostRuntime) -> Result<(), Fail> {
-    let text = "Symbols x;\nLocal F = x - x;\nPrint;\n.end\n";
-    assert!(rt; gives(&rt, rt.alloc(), text, "\n   F = 0;\n\n", 0)?);
-    Ok(())
-}
-
-#[test]
-fn a_number_is_bad_syntax(rt: HostRuntime) -> Result<(), Fail> {
-    let text = "Symbols x;\nLocal F = 2*x;\nPrint;\n.end\n";
-    let line = "error: p.frm line 1: BadSyntax\n";
-    assert!(rt; gives(&rt, rt.alloc(), text, line, 3)?);
-    Ok(())
-}
-
-#[test]
-fn six_letters_to_the_ninth_are_too_many(rt: HostRuntime) -> Result<(), Fail> {
-    let text = "Symbols a,b,c,d,e,f;\nLocal F = (a+b+c+d+e+f)^9;\nPrint;\n.end\n";
-    let line = "error: module 1 expression F: ExpandLimit\n";
-    assert!(rt; gives(&rt, rt.alloc(), text, line, 4)?);
+fn a_refused_module_stands_behind_what_was_printed(rt: HostRuntime) -> Result<(), Fail> {
+    let text = "Symbol x;\nLocal F = 2*x/3;\nPrint;\n.sort\nLocal G = x/0;\n.end\n";
+    let printed = "\n   F =\n      2/3*x;\n\nerror: module 2 expression G: DivideByZero\n";
+    assert!(rt; gives(&rt, rt.alloc(), text, printed, 4)?);
     Ok(())
 }
 

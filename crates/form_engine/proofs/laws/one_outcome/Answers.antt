@@ -1,9 +1,26 @@
-use Rattle.form_engine.proofs.Carried.{some_outcome}
-use Rattle.form_engine.proofs.Unique as unique
+use Rattle.form_engine.proofs.Outcomes.{some_outcome, unique_outcome}
 use Rattle.form_engine.proofs.laws.one_outcome.Goals as goal
 
 pub returns-clause-some : goal.returns-clause-some
-returns-clause-some c = some_outcome
+returns-clause-some c = some_outcome (record {
+  some_reading = c.one_reading.ensures.some;
+  one_program = c.one_reading.ensures.one_program;
+  one_refusal = c.one_reading.ensures.one_refusal;
+  never_both = c.one_reading.ensures.never_both;
+  lawful = c.right_sides_are_lawful.ensures;
+  sound = c.checked_programs_are_sound.ensures;
+  some_module = c.one_module_outcome.ensures.some;
+  one_module = c.one_module_outcome.ensures.one;
+})
 
 pub returns-clause-unique : goal.returns-clause-unique
-returns-clause-unique c = unique.one_outcome
+returns-clause-unique c = unique_outcome (record {
+  some_reading = c.one_reading.ensures.some;
+  one_program = c.one_reading.ensures.one_program;
+  one_refusal = c.one_reading.ensures.one_refusal;
+  never_both = c.one_reading.ensures.never_both;
+  lawful = c.right_sides_are_lawful.ensures;
+  sound = c.checked_programs_are_sound.ensures;
+  some_module = c.one_module_outcome.ensures.some;
+  one_module = c.one_module_outcome.ensures.one;
+})

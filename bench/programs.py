@@ -1,0 +1,106 @@
+"""The programs that bench/run times: each a text of FORM's language, and what is known of it.
+
+A text means the same in both programs. It is always the same text: what looks random comes from a generator with a fixed seed.
+"""
+import random
+
+
+class Program:
+    """A program to time.
+
+    name, says: what it is called, and in a few words what it does; terms: how many terms its right sides and statements give in tform,
+    before equal ones are added; write: writes its text to a file; status: how tform ends; in_form: whether FORM runs it too.
+    """
+
+    def __init__(self, name, says, terms, write, status=0, in_form=True):
+        self.name, self.says, self.terms, self.write, self.status, self.in_form = name, says, terms, write, status, in_form
+
+
+def plain(*lines):
+    """A short text, by its lines."""
+    return lambda file: file.write("".join(f"{it}\n" for it in lines))
+
+
+SIZES = (4, 5, 6, 4, 5, 4, 6, 4, 5, 4)
+
+
+def ten_sums():
+    """Ten sums of four to six terms over ten symbols, with whole coefficients up to 5 in size and here and there a square."""
+    seeded, sums = random.Random(3), []
+    for size in SIZES:
+        terms = {}
+        while len(terms) < size:
+            symbol, power = f"x{seeded.randrange(10)}", 1 if seeded.random() < 0.85 else 2
+            terms.setdefault(symbol + "^2" * (power == 2), seeded.choice([1, 1, 2, 3, 4, 5]) * seeded.choice([1, -1]))
+        pieces = [("-" if it < 0 else "+") + (f"{abs(it)}*" if abs(it) > 1 else "") + term for term, it in terms.items()]
+        sums.append(f"({''.join(pieces).lstrip('+')})")
+    return sums
+
+
+TEN = "Symbols x0,x1,x2,x3,x4,x5,x6,x7,x8,x9;"
+
+
+def product(file):
+    sums = ten_sums()
+    plain(TEN, f"Local F = {sums[0]}", *[f"   *{it}" for it in sums[1:]], ";", ".end")(file)
+
+
+def modules(file):
+    sums = ten_sums()
+    plain(TEN, f"Local F = {sums[0]};", *[line for it in sums[1:] for line in (".sort", f"Local F = F*{it};")], ".end")(file)
+
+
+def literal_sum(file, printed=False):
+    """300,000 terms with fractions and powers over twelve symbols, some of which come again."""
+    seeded = random.Random(1)
+    names = [f"a{it}" for it in range(1, 13)]
+    file.write(f"Symbols {','.join(names)};\nLocal F =\n")
+    for _ in range(30_000):
+        line = []
+        for _ in range(10):
+            symbols = sorted(seeded.sample(range(12), seeded.randrange(2, 6)))
+            powers = [(names[it], seeded.choice([1, 1, 2, 3, 4, 5, 6, -1, -2, -3])) for it in symbols]
+            factors = [name if power == 1 else f"{name}^{power}" for name, power in powers]
+            coefficient = f"{seeded.randrange(1, 1000)}/{seeded.randrange(2, 100)}"
+            line.append(f"{seeded.choice('+-')} {coefficient}*{'*'.join(factors)}")
+        file.write(f"  {' '.join(line)}\n")
+    file.write(";\n" + "Print;\n" * printed + ".end\n")
+
+
+def functions(file):
+    """A product of ten sums that hold commuting functions of one to three arguments, and words of non-commuting ones."""
+    seeded, sums = random.Random(5), []
+    kinds = ["x", "y", "z", "{n}", "{n}", "x+{n}*y", "f({n})"]
+    for size in (4, 3, 4, 3, 4, 3, 4, 3, 3, 4):
+        pieces = [f"{seeded.randrange(2, 6)}*{seeded.choice('AB')}"]
+        while len(pieces) < size:
+            arguments = [seeded.choice(kinds).format(n=seeded.randrange(1, 99)) for _ in range(seeded.choice([1, 1, 1, 2, 3]))]
+            pieces.append(f"{seeded.choice(['x', 'y', 'z^2'])}*{seeded.choice('fgh')}({','.join(arguments)})")
+        sums.append(f"({' + '.join(pieces)})")
+    plain("Symbols x,y,z;", "CFunctions f,g,h;", "Functions A,B;", f"Local F = {sums[0]}", *[f"   *{it}" for it in sums[1:]], ";", ".end")(file)
+
+
+LOOP = plain("Symbols x,y;", "Local F = 0", "#do i=1,40000", '#define n "{`i\'%7}"', "#if {`i'%3} == 1", "  + {`i'*2}*x^{`n'+1}", "#else", "  - y^{`n'+`i'%5}", "#endif", "#undefine n", "#enddo", ";", ".end")
+
+
+def patterns(file):
+    """25,000 terms of ten factors each, two of them functions, under three ids with wildcards."""
+    seeded = random.Random(7)
+    file.write("Symbols x,y,z,a,b,c,n,m;\nCFunctions f,g,h;\nLocal F =\n")
+    for _ in range(25_000):
+        powers = "*".join(f"{it}^{seeded.randrange(1, 9)}" for it in "xyzabc")
+        file.write(f"  + {seeded.randrange(1, 99)}*{powers}*f({seeded.randrange(1, 40)},x)*f({seeded.randrange(1, 40)},y)*g({seeded.randrange(1, 40)},a+b)*g({seeded.randrange(1, 40)},z)\n")
+    plain(";", "id f(n?,x) = h(n+1);", "id g(n?,z) = g(n) + n;", "id x^n?*y^m? = h(n,m);", ".end")(file)
+
+
+ALL = [
+    Program("product", "a product of ten sums of four to six terms over ten symbols", 4_608_000, product),
+    Program("modules", "the same, one sum a module", 869_350, modules),
+    Program("literal_sum", "a written sum of 300,000 terms with fractions and powers over twelve symbols", 300_000, literal_sum),
+    Program("printed_sum", "the same, printed", 300_000, lambda file: literal_sum(file, printed=True)),
+    Program("power_five", "a sum of five terms to the ninth, printed", 5 ** 9, plain("Symbols a,b,c,d,e;", "Local F = (a + 2*b - 3*c + d/2 - e)^9;", "Print;", ".end")),
+    Program("past_the_limit", "(x+y)^1000, refused after 10,000,000 terms", 10_000_000, plain("Symbols x,y;", "Local F = (x+y)^1000;", ".end"), status=4, in_form=False),
+    Program("functions", "a product of ten sums of functions with arguments, and of words", 4 ** 5 * 3 ** 5, functions),
+    Program("loop", "a loop of the preprocessor with 40,000 turns", 40_000, LOOP),
+    Program("patterns", "three ids with wildcards over 25,000 terms of ten factors", None, patterns),
+]

@@ -1,0 +1,16 @@
+pub mod Behind
+pub mod Frames
+pub mod Levels
+pub mod Listings
+pub mod Lookups
+pub mod NumberLists
+pub mod Outer
+pub mod Places
+pub mod Powered
+pub mod Powers
+pub mod Products
+pub mod Rows
+pub mod Streamed
+pub mod Taking
+pub mod Trees
+pub mod Vecs

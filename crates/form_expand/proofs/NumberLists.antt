@@ -1,0 +1,33 @@
+-- The list of a number's power, by the sign and size of the power.
+use Rattle.std.proofs.Common.{◌≡◌, ℕ, zero, suc, ◌<◌, ◌≤◌, Bool, true, false, cond, leb, ℤ, pos, negsuc, nat_abs, refl, sym, ap, ◌∙◌, arith}
+use Rattle.std.specs.Prelude.{Result, Ok, Err}
+use Rattle.std.specs.Int.Signed.{lt_z}
+use Rattle.std.proofs.lemmas.Bool.{lt-leb, le-leb, le-ltb}
+use Rattle.form_base.specs.declared.cause.Cause.TheVariants.{Overflow}
+use Rattle.form_frac.specs.Fraction.{Fraction, largest, make}
+use Rattle.form_frac.specs.declared.frac_error.FracError.{FracError}
+use Rattle.form_term.specs.Monomial.{unit}
+use Rattle.form_expand.specs.Listing.{Listing, single, refusal}
+use Rattle.form_expand.specs.Numbers.{of_fraction, number_list}
+
+pub number_of_none : (value : ℕ) (power : ℤ) → nat_abs power ≡ 0 → number_list value power ≡ single unit
+unfolding number_list
+number_of_none value (pos zero) e = refl
+number_of_none value (pos (suc k)) e = absurd (omega arith)
+number_of_none value (negsuc k) e = absurd (omega arith)
+
+pub number_too_large : (value : ℕ) (power : ℤ) → 1 ≤ nat_abs power → largest < value → number_list value power ≡ refusal Overflow
+unfolding number_list
+number_too_large value (pos zero) some h = absurd (omega arith)
+number_too_large value (pos (suc k)) some h = rw (lt-leb value largest h) refl
+number_too_large value (negsuc k) some h = rw (lt-leb value largest h) refl
+
+pub number_made : (value : ℕ) (power : ℤ) (base : Result Fraction FracError) → 1 ≤ nat_abs power → value ≤ largest
+    → base ≡ cond (lt_z power (pos 0)) (make (pos 1) (pos value)) (make (pos value) (pos 1)) → of_fraction base (nat_abs power) ≡ number_list value power
+unfolding number_list
+number_made value (pos zero) base some h e = absurd (omega arith)
+number_made value (pos (suc k)) base some h e =
+    let above = le-ltb (suc k) 0 (omega arith) in
+    let here = rw above at e in
+    rw (le-leb value largest h) (ap (λ b. of_fraction b (suc k)) here)
+number_made value (negsuc k) base some h e = rw (le-leb value largest h) (ap (λ b. of_fraction b (suc k)) e)

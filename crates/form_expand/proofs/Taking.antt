@@ -1,0 +1,100 @@
+-- What taking a term does to a level.
+use Rattle.std.proofs.Common.{◌≡◌, ℕ, zero, suc, ◌+◌, ◌-◌, ◌<◌, ◌≤◌, List, [], ◌∷◌, refl, sym, ap, ◌∙◌, arith}
+use Rattle.std.specs.Prelude.{Option, Some, None, Result, Ok, Err}
+use Rattle.form_base.specs.declared.cause.Cause.{Cause}
+use Rattle.form_base.specs.declared.cause.Cause.TheVariants.{ExpandLimit}
+use Rattle.form_term.specs.declared.monomial.Monomial.{Monomial}
+use Rattle.form_expand.specs.declared.error.ExpandError.{ExpandError}
+use Rattle.form_expand.specs.declared.error.ExpandError.TheVariants.{Refused, Memory}
+use Rattle.form_expand.specs.Listing.{Listing, nothing, refusal, before, before_by, limited}
+use Rattle.form_expand.specs.Left.{Level, Waiting, left_at, left_past, product_by, times_by}
+use Rattle.form_expand.specs.Kept.{ended_by}
+use Rattle.form_expand.specs.Next.{Gives, Takes, IsMade}
+use Rattle.form_expand.proofs.Listings.{times_end, limited_more, limited_none, limited_within}
+use Rattle.form_expand.proofs.Levels.{taken_at, over_at, refused_at, done_at, times_by_before}
+
+-- the list at its end
+abbrev pub at_end : Option Cause → Listing
+at_end end = record { terms = []; end = end }
+
+-- what is left of a pairing, by what is left of its right list
+
+pub times_by_made : (left : Option Monomial) (t m : Monomial) (rest more : Listing) → rest ≡ before t more → product_by left t ≡ Ok m → times_by left rest ≡ before m (times_by left more)
+times_by_made left t m rest more first made = ap (times_by left) first ∙ times_by_before left t more ∙ ap (λ r. before_by r (times_by left more)) made
+
+pub times_by_refused : (left : Option Monomial) (t : Monomial) (cause : Cause) (rest more : Listing) → rest ≡ before t more → product_by left t ≡ Err cause → times_by left rest ≡ refusal cause
+times_by_refused left t cause rest more first made = ap (times_by left) first ∙ times_by_before left t more ∙ ap (λ r. before_by r (times_by left more)) made
+
+pub times_by_end : (left : Option Monomial) (end : Option Cause) → times_by left (at_end end) ≡ at_end end
+times_by_end None end = refl
+times_by_end (Some m) end = times_end m end
+
+-- a level, by what is left of its pairing
+
+module _ (max : ℕ) (old : Level) where
+  pub takes_one : (m : Monomial) (rest : Listing) → old.count < max → old.opened ≡ before m rest → Takes max (Ok (Some m)) old (record { count = old.count + 1; list = old.list; opened = rest })
+  takes_one m rest h e = λ x. ap (λ o. left_at max (record { count = old.count; list = old.list; opened = o }) x) e ∙ taken_at max old.count old.list m rest x h
+
+  -- the same to a level by its parts
+  pub takes_one_to : (m : Monomial) (new : Level) → old.count < max → old.opened ≡ before m new.opened → new.count ≡ old.count + 1 → new.list ≡ old.list → Takes max (Ok (Some m)) old new
+  takes_one_to m new h e count list =
+      λ x. takes_one m new.opened h e x
+      ∙ ap (λ n. before m (left_at max (record { count = n; list = old.list; opened = new.opened }) x)) (sym count)
+      ∙ ap (λ l. before m (left_at max (record { count = new.count; list = l; opened = new.opened }) x)) (sym list)
+
+  pub takes_over : (m : Monomial) (rest : Listing) (new : Level) → max ≤ old.count → old.opened ≡ before m rest → Takes max (Err (Refused ExpandLimit)) old new
+  takes_over m rest new h e = λ x. ap (λ o. left_at max (record { count = old.count; list = old.list; opened = o }) x) e ∙ over_at max old.count old.list m rest x h
+
+  pub takes_refused : (cause : Cause) (new : Level) → old.opened ≡ refusal cause → Takes max (Err (Refused cause)) old new
+  takes_refused cause new e = λ x. ap (λ o. left_at max (record { count = old.count; list = old.list; opened = o }) x) e ∙ refused_at max old.count old.list cause x
+
+  pub takes_none : (new : Level) → old.opened ≡ nothing → new.count ≡ old.count → new.list ≡ old.list → Takes max (Ok None) old new
+  takes_none new e count list =
+      λ x. ap (λ o. left_at max (record { count = old.count; list = old.list; opened = o }) x) e ∙ done_at max old.count old.list x
+      ∙ ap (λ n. left_past max (record { count = n; list = old.list }) x) (sym count) ∙ ap (λ l. left_past max (record { count = new.count; list = l }) x) (sym list)
+
+  -- behind the last term of the right list
+  pub takes_end : (end : Option Cause) (new : Level) → old.opened ≡ at_end end → (end ≡ None → (new.count ≡ old.count) × (new.list ≡ old.list)) → Takes max (ended_by end) old new
+  takes_end None new e same = let s = same refl in takes_none new e s.0 s.1
+  takes_end (Some cause) new e same = takes_refused cause new e
+
+  -- where a product wasn't made
+  pub takes_unmade : (left : Option Monomial) (t : Monomial) (rest more : Listing) (e : ExpandError) (new : Level) → old.opened ≡ times_by left rest → rest ≡ before t more → IsMade (Err e) (product_by left t) → Takes max (Err e) old new
+  takes_unmade left t rest more (Refused cause) new opened first made = takes_refused cause new (opened ∙ times_by_refused left t cause rest more first made)
+  takes_unmade left t rest more Memory new opened first made = tt
+
+-- A list that is taken alone.
+
+module _ (max count : ℕ) where
+  pub limited_first : (t : Monomial) (rest more : Listing) → rest ≡ before t more → count < max → limited (max - count) rest ≡ before t (limited (max - (count + 1)) more)
+  limited_first t rest more first h =
+      let e : max - count ≡ suc (max - (count + 1)) = omega arith in
+      rw e (ap (limited (suc (max - (count + 1)))) first ∙ limited_more (max - (count + 1)) t more)
+
+  pub limited_over : (t : Monomial) (rest more : Listing) → rest ≡ before t more → max ≤ count → limited (max - count) rest ≡ refusal ExpandLimit
+  limited_over t rest more first h =
+      let e : max - count ≡ 0 = omega arith in
+      rw e (ap (limited 0) first ∙ limited_none t more)
+
+  pub limited_end : (end : Option Cause) (rest : Listing) → rest ≡ at_end end → limited (max - count) rest ≡ at_end end
+  limited_end end rest e = ap (limited (max - count)) e ∙ limited_within (max - count) (at_end end) (omega arith)
+
+-- behind the last term
+pub gives_end : (end : Option Cause) (old new : Listing) → old ≡ at_end end → (end ≡ None → new ≡ at_end None) → Gives (ended_by end) old new
+gives_end None old new e same = (e, same refl)
+gives_end (Some cause) old new e same = e
+
+-- where a product wasn't made
+pub gives_unmade : (left : Option Monomial) (t : Monomial) (rest more : Listing) (e : ExpandError) (new : Listing) → rest ≡ before t more → IsMade (Err e) (product_by left t) → Gives (Err e) (times_by left rest) new
+gives_unmade left t rest more (Refused cause) new first made = times_by_refused left t cause rest more first made
+gives_unmade left t rest more Memory new first made = tt
+
+-- where the next term of the right list wasn't given
+pub gives_times_err : (left : Option Monomial) (e : ExpandError) (old new then : Listing) → Gives (Err e) old new → Gives (Err e) (times_by left old) then
+gives_times_err left (Refused cause) old new then h = ap (times_by left) h ∙ times_by_end left (Some cause)
+gives_times_err left Memory old new then h = tt
+
+-- where the next term of a level's pairing wasn't given
+pub takes_ungiven : (max : ℕ) (old new : Level) (e : ExpandError) (then : Listing) → Gives (Err e) old.opened then → Takes max (Err e) old new
+takes_ungiven max old new (Refused cause) then h = takes_refused max old cause new h
+takes_ungiven max old new Memory then h = tt

@@ -1,0 +1,164 @@
+-- Reading the pieces of a tree gives the list of the tree.
+use Rattle.std.proofs.Common.{◌≡◌, ℕ, ◌≤◌, Bool, true, false, List, [], ◌∷◌, ◌++◌, length, refl, sym, ap, ◌∙◌, append_assoc, append-nil}
+use Rattle.std.specs.Prelude.{None}
+use Rattle.form_tree.specs.declared.tree.Link.{Link}
+use Rattle.form_tree.specs.declared.tree.Link.TheVariants as links
+use Rattle.form_tree.specs.declared.tree.Piece.{Piece}
+use Rattle.form_tree.specs.declared.tree.Piece.TheVariants as pieces
+use Rattle.form_tree.specs.Tree as tree
+use Rattle.form_tree.specs.Tree.{Sum, Product, Factor, pieces_of_sum, pieces_of_product, pieces_of_factor, link_of}
+use Rattle.form_expand.specs.declared.stored.Stored.{Stored}
+use Rattle.form_expand.specs.Expanding.{list_of_sum, list_of_product, list_of_factor}
+use Rattle.form_expand.specs.Left.{row, row_behind}
+use Rattle.form_expand.specs.Listing.{Listing, nothing, limited, followed, pairs, powers, signed}
+use Rattle.form_expand.specs.Numbers.{number_list, symbol_list}
+use Rattle.form_expand.specs.Stored.{terms_of}
+use Rattle.form_expand.specs.Reading.{Part, Reading, fresh, closed, begun, linked, with_factor, with_piece, opening, closing, fed, read_from, list_of_pieces}
+use Rattle.form_expand.proofs.Listings.{limited_limited, limited_within, limited_length, limited_again, limited_powers, limited_nothing, signed_length, followed_nothing}
+use Rattle.form_expand.proofs.Products.{row_push}
+
+-- the lists of the factors of a product, in order
+abbrev first_factor : Product → Factor
+first_factor (tree.one f) = f
+first_factor (tree.times p f) = first_factor p
+
+module _ (max : ℕ) (all : List Stored) where
+  abbrev later_lists : Product → List Listing
+  later_lists (tree.one f) = []
+  later_lists (tree.times p f) = later_lists p ++ list_of_factor max all f ∷ []
+
+  abbrev lists_of : Product → List Listing
+  lists_of p = list_of_factor max all (first_factor p) ∷ later_lists p
+
+  -- a sum behind which this product was read
+  abbrev with_product : Bool → Product → Listing → Part
+  with_product is_minus p sum = record { max = max; sum = sum; is_minus = is_minus; factors = lists_of p }
+
+  -- a sum that was read from the front of a parenthesis: its last product, its sign, and what is before that
+  abbrev last_product : Sum → Product
+  last_product (tree.first is_minus p) = p
+  last_product (tree.more s is_minus p) = p
+
+  abbrev last_sign : Sum → Bool
+  last_sign (tree.first is_minus p) = is_minus
+  last_sign (tree.more s is_minus p) = is_minus
+
+  abbrev sum_before : Sum → Listing
+  sum_before (tree.first is_minus p) = closed (fresh max)
+  sum_before (tree.more s is_minus p) = closed (with_product (last_sign s) (last_product s) (sum_before s))
+
+  abbrev part_of : Sum → Part
+  part_of s = with_product (last_sign s) (last_product s) (sum_before s)
+
+  -- What is read is within the limit.
+
+  limited_factor : (f : Factor) → limited max (list_of_factor max all f) ≡ list_of_factor max all f
+  unfolding list_of_factor
+  limited_factor (tree.number n k) = limited_again max (number_list n k)
+  limited_factor (tree.symbol s k) = limited_again max (symbol_list s k)
+  limited_factor (tree.stored e k) = limited_powers max (record { terms = terms_of all e; end = None }) k
+  limited_factor (tree.parenthesis s k) = limited_powers max (list_of_sum max all s) k
+
+  limited_product : (p : Product) → limited max (list_of_product max all p) ≡ list_of_product max all p
+  unfolding list_of_product
+  limited_product (tree.one f) = limited_factor f
+  limited_product (tree.times p f) = limited_again max (pairs (list_of_product max all p) (list_of_factor max all f))
+
+  limited_signed : (is_minus : Bool) (l : Listing) → limited max l ≡ l → limited max (signed is_minus l) ≡ signed is_minus l
+  limited_signed is_minus l e =
+      let short : length l.terms ≤ max = rw e at (limited_length max l) in
+      limited_within max (signed is_minus l) (rw (signed_length is_minus l) short)
+
+  -- The lists that were read are those of the tree.
+
+  row_of_product : (p : Product) → row max (lists_of p) ≡ list_of_product max all p
+  unfolding row row_behind list_of_product
+  row_of_product (tree.one f) = limited_factor f
+  row_of_product (tree.times p f) =
+      row_push max (list_of_factor max all (first_factor p)) (later_lists p) (list_of_factor max all f)
+      ∙ ap (λ l. limited max (pairs l (list_of_factor max all f))) (row_of_product p)
+
+  closed_fresh : closed (fresh max) ≡ nothing
+  unfolding closed row
+  closed_fresh = ap (limited max) (followed_nothing nothing) ∙ limited_nothing max
+
+  list_of_part : (s : Sum) → closed (part_of s) ≡ list_of_sum max all s
+  unfolding closed list_of_sum
+  list_of_part (tree.first is_minus p) =
+      ap (λ l. limited max (followed l (signed is_minus (row max (lists_of p))))) closed_fresh
+      ∙ ap (limited max) (followed_nothing (signed is_minus (row max (lists_of p))))
+      ∙ ap (λ l. limited max (signed is_minus l)) (row_of_product p)
+      ∙ limited_signed is_minus (list_of_product max all p) (limited_product p)
+  list_of_part (tree.more s is_minus p) =
+      ap (λ l. limited max (followed l (signed is_minus (row max (lists_of p))))) (list_of_part s)
+      ∙ ap (λ l. limited max (followed (list_of_sum max all s) (signed is_minus l))) (row_of_product p)
+
+  -- Reading the pieces of a tree, whatever follows them.
+
+  -- a sum that is being read to this limit
+  abbrev part : Listing → Bool → List Listing → Part
+  part sum is_minus factors = record { max = max; sum = sum; is_minus = is_minus; factors = factors }
+
+  -- a further factor is read
+  abbrev with_list : Link → Listing → Part → Part
+  with_list link l p = let q = linked link p in record { max = q.max; sum = q.sum; is_minus = q.is_minus; factors = q.factors ++ l ∷ [] }
+
+  linked_max : (link : Link) (sum : Listing) (is_minus : Bool) (factors : List Listing) → (linked link (part sum is_minus factors)).max ≡ max
+  linked_max links.Plus sum is_minus factors = refl
+  linked_max links.Minus sum is_minus factors = refl
+  linked_max links.Times sum is_minus factors = refl
+
+  -- a factor that is one piece
+  piece_read : (link : Link) (l list : Listing) (power : ℕ) (sum : Listing) (is_minus : Bool) (factors : List Listing) (outer : List Part) (rest : List Piece) → powers max l power ≡ list
+      → read_from all (with_piece link l power (record { top = part sum is_minus factors; outer = outer })) rest ≡ read_from all (record { top = with_list link list (part sum is_minus factors); outer = outer }) rest
+  piece_read link l list power sum is_minus factors outer rest e =
+      let q = linked link (part sum is_minus factors) in
+      ap (λ k. read_from all (record { top = record { max = q.max; sum = q.sum; is_minus = q.is_minus; factors = q.factors ++ k ∷ [] }; outer = outer }) rest)
+      (ap (λ n. powers n l power) (linked_max link sum is_minus factors) ∙ e)
+
+  mutual
+    unfolding read_from fed list_of_factor powers
+
+    read_factor : (f : Factor) (link : Link) (sum : Listing) (is_minus : Bool) (factors : List Listing) (outer : List Part) (rest : List Piece)
+        → read_from all (record { top = part sum is_minus factors; outer = outer }) (pieces_of_factor link f ++ rest)
+        ≡ read_from all (record { top = with_list link (list_of_factor max all f) (part sum is_minus factors); outer = outer }) rest
+    read_factor (tree.number n k) link sum is_minus factors outer rest = piece_read link (number_list n k) (limited max (number_list n k)) 1 sum is_minus factors outer rest refl
+    read_factor (tree.symbol s k) link sum is_minus factors outer rest = piece_read link (symbol_list s k) (limited max (symbol_list s k)) 1 sum is_minus factors outer rest refl
+    read_factor (tree.stored e k) link sum is_minus factors outer rest =
+        let terms : Listing = record { terms = terms_of all e; end = None } in
+        piece_read link terms (powers max terms k) k sum is_minus factors outer rest refl
+    read_factor (tree.parenthesis s k) link sum is_minus factors outer rest =
+        let q : Part = linked link (part sum is_minus factors) in
+        ap (λ n. read_from all (record { top = fresh n; outer = q ∷ outer }) ((pieces_of_sum s ++ pieces.Close k ∷ []) ++ rest)) refl
+        ∙ ap (read_from all (record { top = fresh max; outer = q ∷ outer })) (append_assoc (pieces_of_sum s) (pieces.Close k ∷ []) rest)
+        ∙ read_sum s (q ∷ outer) (pieces.Close k ∷ rest)
+        ∙ piece_read link (closed (part_of s)) (powers max (list_of_sum max all s) k) k sum is_minus factors outer rest (ap (λ l. powers max l k) (list_of_part s))
+
+    read_product : (p : Product) (is_minus : Bool) (sum : Listing) (was_minus : Bool) (factors : List Listing) (outer : List Part) (rest : List Piece)
+        → read_from all (record { top = part sum was_minus factors; outer = outer }) (pieces_of_product (link_of is_minus) p ++ rest)
+        ≡ read_from all (record { top = with_product is_minus p (closed (part sum was_minus factors)); outer = outer }) rest
+    read_product (tree.one f) true sum was_minus factors outer rest = read_factor f links.Minus sum was_minus factors outer rest
+    read_product (tree.one f) false sum was_minus factors outer rest = read_factor f links.Plus sum was_minus factors outer rest
+    read_product (tree.times p f) is_minus sum was_minus factors outer rest =
+        ap (read_from all (record { top = part sum was_minus factors; outer = outer })) (append_assoc (pieces_of_product (link_of is_minus) p) (pieces_of_factor links.Times f) rest)
+        ∙ read_product p is_minus sum was_minus factors outer (pieces_of_factor links.Times f ++ rest)
+        ∙ read_factor f links.Times (closed (part sum was_minus factors)) is_minus (lists_of p) outer rest
+
+    read_sum : (s : Sum) (outer : List Part) (rest : List Piece)
+        → read_from all (record { top = fresh max; outer = outer }) (pieces_of_sum s ++ rest) ≡ read_from all (record { top = part_of s; outer = outer }) rest
+    read_sum (tree.first is_minus p) outer rest = read_product p is_minus nothing false [] outer rest
+    read_sum (tree.more s is_minus p) outer rest =
+        ap (read_from all (record { top = fresh max; outer = outer })) (append_assoc (pieces_of_sum s) (pieces_of_product (link_of is_minus) p) rest)
+        ∙ read_sum s outer (pieces_of_product (link_of is_minus) p ++ rest)
+        ∙ read_product p is_minus (sum_before s) (last_sign s) (lists_of (last_product s)) outer rest
+
+  pub pieces_of_tree : (s : Sum) → list_of_pieces max all (pieces_of_sum s) ≡ list_of_sum max all s
+  unfolding read_from
+  pieces_of_tree s =
+      ap (read_from all (record { top = fresh max; outer = [] })) (sym (append-nil (pieces_of_sum s)))
+      ∙ read_sum s [] []
+      ∙ list_of_part s
+
+  pub limited_sum : (s : Sum) → limited max (list_of_sum max all s) ≡ list_of_sum max all s
+  unfolding closed
+  limited_sum s = ap (limited max) (sym (list_of_part s)) ∙ limited_again max (followed (part_of s).sum (signed (part_of s).is_minus (row max (part_of s).factors))) ∙ list_of_part s

@@ -1,0 +1,15 @@
+pub mod Error
+pub mod Expanding
+pub mod Factors
+pub mod Frames
+pub mod Kept
+pub mod Left
+pub mod Listing
+pub mod Next
+pub mod Numbers
+pub mod Products
+pub mod Readers
+pub mod Reading
+pub mod Stored
+pub mod Streams
+pub mod Walks

@@ -1,0 +1,9 @@
+-- Expressions whose terms a right side may name.
+use Rattle.std.specs.Prelude.{ℕ, List, [], ◌∷◌, ◌==◌, if◌then◌else◌}
+use Rattle.form_term.specs.declared.monomial.Monomial.{Monomial}
+use Rattle.form_expand.specs.declared.stored.Stored.{Stored}
+
+-- the terms of the first expression that has this Id; none where none has it
+unfoldable pub terms_of : List Stored → ℕ → List Monomial
+terms_of [] expression = []
+terms_of (s ∷ all) expression = if s.expression == expression then s.terms else terms_of all expression

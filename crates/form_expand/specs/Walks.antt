@@ -1,0 +1,31 @@
+-- What is left of the lists that terms are being taken from.
+use Rattle.std.specs.Prelude.{ℕ, suc, ◌-◌, List, ◌++◌, map, option_to_list}
+use Rattle.form_expand.specs.declared.walk.Walk.{Walk}
+use Rattle.form_expand.specs.declared.power.Step.{Step}
+use Rattle.form_expand.specs.declared.power.Power.{Power}
+use Rattle.form_expand.specs.Kept.{listing, rest_at}
+use Rattle.form_expand.specs.Listing.{Listing, limited, powers}
+use Rattle.form_expand.specs.Left.{Level, Waiting, row_left, times_by}
+
+abbrev pub walk_whole : ℕ → Walk → Listing
+walk_whole max w = limited max (listing w.whole)
+
+abbrev pub walk_left : ℕ → Walk → Listing
+walk_left max w = limited (max - w.count) (rest_at w.place (listing w.whole))
+
+-- a factor of a power of this list
+abbrev pub step_level : Listing → Step → Level
+step_level list s = record { count = s.count; list = list; opened = times_by s.left (rest_at s.place list) }
+
+abbrev pub step_waiting : Listing → ℕ → Waiting
+step_waiting list count = record { count = count; list = list }
+
+abbrev pub power_whole : ℕ → Power → Listing
+power_whole max p = powers max (listing p.whole) (suc p.later)
+
+-- a power, by its factors that terms are being taken from and the counts of those that wait
+unfoldable pub steps_left : ℕ → Listing → List Step → List ℕ → Listing
+steps_left max list opened waiting = row_left max (map (step_level list) opened) (map (step_waiting list) waiting)
+
+abbrev pub power_left : ℕ → Power → Listing
+power_left max p = steps_left max (listing p.whole) (p.below.items ++ option_to_list p.top) p.waiting.items

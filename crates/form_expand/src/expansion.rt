@@ -1,0 +1,52 @@
+ghost use Rattle.std.specs.Prelude.{◌≡◌};
+ghost use Rattle.form_tree.specs.Tree.{Sum, pieces_of_sum};
+ghost use Rattle.form_expand.specs.Expanding.{list_of_sum};
+ghost use Rattle.form_expand.specs.Next.{Gives};
+
+use crate::ExpandError;
+use crate::stored::Stored;
+use crate::stream::Stream;
+use form_term::Monomial;
+use form_tree::Piece;
+use std::alloc::Global;
+use std::marker::Model;
+
+/// The list of a right side, whose terms are made one by one as they are asked for: in a clause what is left of it.
+#[derive(Drop)]
+pub struct Expansion<'a> {
+    stream: Stream<'a>,
+}
+
+impl<'a> Model for Expansion<'a> {
+    ghost use Rattle.form_expand.specs.Listing.{Listing};
+
+    ghost Value = { Listing };
+
+    ghost use Rattle.form_expand.specs.Streams.{stream_left};
+
+    ghost view = { λ e. stream_left e.stream };
+}
+
+impl Expansion<'_> {
+    /// The next term. The first refusal ends the list; once it or want of memory was answered it isn't asked again.
+    pub fn next(&mut self, alloc: Global) -> Result<Option<Monomial>, ExpandError>
+        ensures { Gives result self.old self.new }
+    {
+        self.stream.next(alloc)
+    }
+}
+
+/// The list of a right side, with at most `limit` terms in it and in each list within it. `stored` has the expressions
+/// that it may name. Nothing is made before it is asked for.
+pub fn expand_tree<'a>(
+    alloc: Global,
+    tree: &'a [Piece],
+    limit: u64,
+    stored: &'a [Stored],
+) -> Expansion<'a>
+    ensures { (s : Sum) → tree.now ≡ pieces_of_sum s → result ≡ list_of_sum limit stored.now s }
+{
+    Expansion {
+        stream: Stream::new(alloc, tree, limit, stored),
+    }
+}

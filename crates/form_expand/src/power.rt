@@ -1,0 +1,181 @@
+ghost use Rattle.std.specs.Prelude.{◌≡◌, ◌++◌, ℕ, Some, None, OnOk, map, option_to_list};
+ghost use Rattle.form_expand.specs.Kept.{listing};
+ghost use Rattle.form_expand.specs.Left.{times_by};
+ghost use Rattle.form_expand.specs.Next.{Gives, Goes, Takes};
+ghost use Rattle.form_expand.specs.Walks.{step_level, power_left, power_whole};
+
+use crate::ExpandError;
+use crate::progress::Progress;
+use crate::times::{times, times_owned};
+use crate::whole::Whole;
+use form_base::Cause;
+use form_term::Monomial;
+use std::alloc::{AllocError, Global};
+use std::mem;
+
+/// A factor of a power that terms are being taken from.
+#[derive(Drop)]
+pub struct Step {
+    /// The term of the front before it that its terms are paired with, none at the first factor.
+    pub left: Option<Monomial>,
+    pub place: usize,
+    /// How many terms the front up to it has had.
+    pub count: u64,
+}
+
+impl Step {
+    /// The product with the next term.
+    fn take(
+        &mut self,
+        alloc: Global,
+        limit: u64,
+        whole: &mut Whole,
+    ) -> Result<Option<Monomial>, ExpandError>
+        ensures next { Takes limit result (step_level (listing whole.old) self.old) (step_level (listing whole.new) self.new) }
+        ensures whole { OnOk result (listing whole.new ≡ listing whole.old) }
+    {
+        let Some(term) = whole.at(self.place) else {
+            return whole.ended();
+        };
+        let term = times(alloc, &self.left, term)?;
+        if self.count >= limit {
+            return Err(ExpandError::Refused(Cause::ExpandLimit));
+        }
+        self.place += 1;
+        self.count += 1;
+        Ok(Some(term))
+    }
+}
+
+/// A list to a power of at least 2, whose terms are taken one by one, again and again: its factors are paired from the
+/// left, deepest first.
+#[derive(Drop)]
+pub struct Power<'a> {
+    pub whole: Whole<'a>,
+    /// How many factors there are behind the first.
+    pub later: u32,
+    /// The last factor that terms are being taken from.
+    pub top: Option<Step>,
+    /// The factors before that.
+    pub below: Vec<Step>,
+    /// How many terms the front up to each factor behind it has had, the next one last.
+    pub waiting: Vec<u64>,
+}
+
+impl<'a> Power<'a> {
+    pub fn new(alloc: Global, whole: Whole<'a>, later: u32) -> Power<'a>
+        ensures whole { result.whole ≡ whole.entry }
+        ensures later { result.later ≡ later }
+    {
+        Power {
+            whole,
+            later,
+            top: None,
+            below: Vec::new(alloc),
+            waiting: Vec::new(alloc),
+        }
+    }
+
+    /// Begins again.
+    pub fn restart(&mut self) -> Result<(), AllocError>
+        ensures whole { OnOk result ((max : ℕ) → power_whole max self.new ≡ power_whole max self.old) }
+        ensures left { OnOk result ((max : ℕ) → power_left max self.new ≡ power_whole max self.old) }
+    {
+        self.below.clear();
+        self.waiting.clear();
+        self.waiting.resize(self.later as usize, 0)?;
+        self.top = Some(Step {
+            left: None,
+            place: 0,
+            count: 0,
+        });
+        Ok(())
+    }
+
+    /// A front of a product times the next term.
+    pub fn next_times(
+        &mut self,
+        alloc: Global,
+        limit: u64,
+        left: &Option<Monomial>,
+    ) -> Result<Option<Monomial>, ExpandError>
+        ensures next { Gives result (times_by left.now (power_left limit self.old)) (times_by left.now (power_left limit self.new)) }
+        ensures whole { OnOk result (power_whole limit self.new ≡ power_whole limit self.old) }
+    {
+        let Some(term) = self.next(alloc, limit)? else {
+            return Ok(None);
+        };
+        Ok(Some(times_owned(alloc, left, term)?))
+    }
+
+    /// The next term.
+    fn next(&mut self, alloc: Global, limit: u64) -> Result<Option<Monomial>, ExpandError>
+        ensures next { Gives result (power_left limit self.old) (power_left limit self.new) }
+        ensures whole { OnOk result (power_whole limit self.new ≡ power_whole limit self.old) }
+    {
+        for _ in 0..u64::MAX {
+            match self.step(alloc, limit)? {
+                Progress::Moves => {}
+                Progress::Gives(term) => return Ok(Some(term)),
+                Progress::Done => return Ok(None),
+            }
+        }
+        Err(ExpandError::Memory)
+    }
+
+    fn step(&mut self, alloc: Global, limit: u64) -> Result<Progress, ExpandError>
+        ensures next { Goes result (power_left limit self.old) (power_left limit self.new) }
+        ensures whole { OnOk result (power_whole limit self.new ≡ power_whole limit self.old) }
+    {
+        let Some(top) = &mut self.top else {
+            let Some(step) = self.below.pop() else {
+                return Ok(Progress::Done);
+            };
+            self.top = Some(step);
+            return Ok(Progress::Moves);
+        };
+        let Some(term) = top.take(alloc, limit, &mut self.whole)? else {
+            self.close()?;
+            return Ok(Progress::Moves);
+        };
+        let Some(count) = self.waiting.pop() else {
+            return Ok(Progress::Gives(term));
+        };
+        self.open(count, term)?;
+        Ok(Progress::Moves)
+    }
+
+    /// Takes no more terms from the last factor.
+    fn close(&mut self) -> Result<(), AllocError>
+        ensures top { self.new.top ≡ None }
+        ensures below { self.new.below.items ≡ self.old.below.items }
+        ensures waiting { OnOk result (self.new.waiting.items
+            ≡ self.old.waiting.items ++ map (λ step. step.count) (option_to_list self.old.top)) }
+        ensures whole { self.new.whole ≡ self.old.whole }
+        ensures later { self.new.later ≡ self.old.later }
+    {
+        if let Some(top) = self.top.take() {
+            self.waiting.push(top.count)?;
+        }
+        Ok(())
+    }
+
+    /// Takes terms from the next factor, which are paired with this term.
+    fn open(&mut self, count: u64, left: Monomial) -> Result<(), AllocError>
+        ensures below { OnOk result (self.new.below.items ≡ self.old.below.items ++ option_to_list self.old.top) }
+        ensures top { OnOk result (self.new.top ≡ Some (record { left = Some left; place = 0; count = count })) }
+        ensures waiting { self.new.waiting.items ≡ self.old.waiting.items }
+        ensures whole { self.new.whole ≡ self.old.whole }
+        ensures later { self.new.later ≡ self.old.later }
+    {
+        let step = Step {
+            left: Some(left),
+            place: 0,
+            count,
+        };
+        if let Some(top) = mem::replace(&mut self.top, Some(step)) {
+            self.below.push(top)?;
+        }
+        Ok(())
+    }
+}

@@ -1,0 +1,38 @@
+ghost use Rattle.form_expand.specs.Left.{product_by};
+ghost use Rattle.form_expand.specs.Next.{IsMade};
+
+use crate::ExpandError;
+use form_normal::product;
+use form_term::Monomial;
+use std::alloc::Global;
+
+/// A front of a product, none where it has no factor yet, times a term.
+pub fn times(
+    alloc: Global,
+    left: &Option<Monomial>,
+    term: &Monomial,
+) -> Result<Monomial, ExpandError>
+    ensures { IsMade result (product_by left.now term.now) }
+{
+    match left {
+        Some(left) => Ok(product(alloc, left, term)?),
+        None => Ok(Monomial {
+            coefficient: term.coefficient,
+            term: term.term.clone()?,
+        }),
+    }
+}
+
+/// The same with a term of its own.
+pub fn times_owned(
+    alloc: Global,
+    left: &Option<Monomial>,
+    term: Monomial,
+) -> Result<Monomial, ExpandError>
+    ensures { IsMade result (product_by left.now term) }
+{
+    match left {
+        Some(left) => Ok(product(alloc, left, &term)?),
+        None => Ok(term),
+    }
+}

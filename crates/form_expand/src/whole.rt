@@ -1,0 +1,91 @@
+ghost use Rattle.std.specs.Prelude.{◌≡◌, ◌+◌, ◌<◌, ◌^◌, None, OnSome, length};
+ghost use Rattle.form_expand.specs.Listing.{nothing, single, refusal};
+ghost use Rattle.form_expand.specs.Kept.{kept_terms, listing, end_of, ended_by, BeginsAt};
+
+use crate::ExpandError;
+use crate::refusal::Refusal;
+use form_base::Cause;
+use form_term::Monomial;
+
+/// Where the terms of a list are kept.
+#[derive(Drop)]
+pub enum Kept<'a> {
+    None,
+    One(Monomial),
+    Made(Vec<Monomial>),
+    Stored(&'a [Monomial]),
+}
+
+impl Kept<'_> {
+    fn as_slice(&self) -> &[Monomial]
+        ensures { result.now ≡ kept_terms self.now }
+    {
+        match self {
+            Kept::None => &[],
+            Kept::One(term) => std::slice::from_ref(term),
+            Kept::Made(terms) => terms.as_slice(),
+            Kept::Stored(terms) => terms,
+        }
+    }
+}
+
+/// A list that is there as a whole, with its end.
+#[derive(Drop)]
+pub struct Whole<'a> {
+    pub kept: Kept<'a>,
+    pub end: Option<Refusal>,
+}
+
+impl Whole<'_> {
+    /// The list without terms.
+    pub fn nothing<'a>() -> Whole<'a>
+        ensures { listing result ≡ nothing }
+    {
+        Whole {
+            kept: Kept::None,
+            end: None,
+        }
+    }
+
+    pub fn single<'a>(term: Monomial) -> Whole<'a>
+        ensures { listing result ≡ single term }
+    {
+        Whole {
+            kept: Kept::One(term),
+            end: None,
+        }
+    }
+
+    pub fn refused<'a>(cause: Cause) -> Whole<'a>
+        ensures { listing result ≡ refusal cause }
+    {
+        Whole {
+            kept: Kept::None,
+            end: Some(Refusal { cause }),
+        }
+    }
+
+    pub fn len(&self) -> usize
+        ensures { result ≡ length (kept_terms self.now.kept) }
+    {
+        self.kept.as_slice().len()
+    }
+
+    pub fn at(&self, place: usize) -> Option<&Monomial>
+        ensures first { BeginsAt (listing self.now) place result }
+        ensures room { OnSome result (place + 1 < 2 ^ 64) }
+    {
+        self.kept.as_slice().get(place)
+    }
+
+    /// What comes behind the last term: nothing, or the refusal, which goes.
+    pub fn ended(&mut self) -> Result<Option<Monomial>, ExpandError>
+        ensures value { result ≡ ended_by (end_of self.old.end) }
+        ensures same { end_of self.old.end ≡ None → self.new ≡ self.old }
+    {
+        match self.end.take() {
+            Some(refusal) => Err(ExpandError::Refused(refusal.into_cause())),
+            None => Ok(None),
+        }
+    }
+}

@@ -1,0 +1,8 @@
+pub mod Added
+pub mod Building
+pub mod Carried
+pub mod Collected
+pub mod Outcomes
+pub mod Placed
+pub mod Stays
+pub mod Trees

@@ -1,0 +1,6 @@
+pub mod Answers
+pub mod Kept
+pub mod Module
+pub mod Places
+pub mod Printed
+pub mod Sets

@@ -1,0 +1,105 @@
+ghost use Rattle.std.specs.Prelude.{◌≡◌, Ok, Err, IfOk, OnOk, ℕ, map, filter, fold};
+ghost use Rattle.form_base.specs.declared.cause.Cause.{Cause};
+ghost use Rattle.form_module.specs.Answers.{AreCarriedOut};
+ghost use Rattle.form_module.specs.Kept.{as_stored, is_kept};
+ghost use Rattle.form_module.specs.Module.{HaveTrees, IsModuleOutcome, with_expression};
+
+use crate::ModuleError;
+use crate::expression_set::{ExpressionSet, changed};
+use crate::result::result_of;
+use crate::right_sides::{definitions, right_side};
+use form_base::{Id, Settings};
+use form_check::{Checked, Module};
+use form_expand::{Stored, Terms};
+use std::alloc::{AllocError, Global};
+use std::collections::BTreeMap;
+
+/// Carries out a module over the expressions that stand at its start, each with its terms in their order. Gives those
+/// that stand at its end, in the order of first definition; or the first refusal, in that order.
+pub fn run_module(
+    alloc: Global,
+    settings: &Settings,
+    carried: &Module,
+    standing: Vec<Stored>,
+) -> Result<Vec<Stored>, ModuleError>
+    requires { HaveTrees carried.now }
+    ensures carried { IfOk result (λ after.
+        IsModuleOutcome settings.now carried.now standing.items (Ok after.items)) }
+    ensures refused { (cause : Cause) (expression : ℕ) → result ≡ Err (ModuleError.Refused cause expression) →
+        IsModuleOutcome settings.now carried.now standing.items
+        (Err (record { cause = cause; expression = expression })) }
+{
+    let statements = carried.as_slice();
+    let results = carry_out(alloc, settings, statements, &standing)?;
+    let changed = changed(alloc, statements)?;
+    let mut after = BTreeMap::new(alloc);
+    keep(&mut after, &changed, standing)?;
+    put(&mut after, results)?;
+    Ok(listed(alloc, after)?)
+}
+
+/// The results of a module's definitions.
+fn carry_out(
+    alloc: Global,
+    settings: &Settings,
+    statements: &[Checked],
+    standing: &[Stored],
+) -> Result<Vec<Stored>, ModuleError>
+    requires { HaveTrees statements.now }
+    ensures { AreCarriedOut settings.now statements.now standing.now result }
+{
+    let mut results = Vec::new(alloc);
+    for (expression, place) in definitions(alloc, statements)? {
+        match result_of(alloc, settings, right_side(statements, place), standing) {
+            Ok(terms) => results.push(Stored { expression, terms })?,
+            Err(error) => return Err(error.at(expression)),
+        }
+    }
+    Ok(results)
+}
+
+/// Puts the expressions that aren't changed among those that stand after a module.
+fn keep(
+    after: &mut BTreeMap<Id, Terms>,
+    changed: &ExpressionSet,
+    standing: Vec<Stored>,
+) -> Result<(), AllocError>
+    ensures { OnOk result (map as_stored after.new.entries
+        ≡ fold with_expression (map as_stored after.old.entries) (filter (is_kept changed.now) standing.items)) }
+{
+    for one in standing {
+        if !changed.has(one.expression) {
+            put_one(after, one)?;
+        }
+    }
+    Ok(())
+}
+
+/// Puts expressions among those that stand after a module.
+fn put(after: &mut BTreeMap<Id, Terms>, results: Vec<Stored>) -> Result<(), AllocError>
+    ensures { OnOk result (map as_stored after.new.entries
+        ≡ fold with_expression (map as_stored after.old.entries) results.items) }
+{
+    for one in results {
+        put_one(after, one)?;
+    }
+    Ok(())
+}
+
+fn put_one(after: &mut BTreeMap<Id, Terms>, one: Stored) -> Result<(), AllocError>
+    ensures { OnOk result (map as_stored after.new.entries ≡ with_expression (map as_stored after.old.entries) one) }
+{
+    after.insert(one.expression, one.terms)?;
+    Ok(())
+}
+
+/// The expressions with their terms, in their order.
+fn listed(alloc: Global, after: BTreeMap<Id, Terms>) -> Result<Vec<Stored>, AllocError>
+    ensures { IfOk result (λ all. all.items ≡ map as_stored after.entries) }
+{
+    let mut all = Vec::new(alloc);
+    for (expression, terms) in after {
+        all.push(Stored { expression, terms })?;
+    }
+    Ok(all)
+}
