@@ -1,5 +1,5 @@
 -- What a piece is that isn't refused.
-use Rattle.std.proofs.Common.{◌≡◌, ℕ, zero, suc, ◌≤◌, ℤ, pos, neg_ℤ, nat_abs, Bool, true, false, ◌&&◌, not, nat_le, List, [], ◌∷◌, Option, Some, None, Ok, refl, subst, arith, if◌then◌else◌}
+use Rattle.std.proofs.Common.{◌≡◌, ℕ, zero, suc, ◌≤◌, ℤ, pos, neg_ℤ, nat_abs, Bool, true, false, ◌&&◌, ◌==◌, not, nat_le, List, [], ◌∷◌, Option, Some, None, Ok, refl, subst, arith, if◌then◌else◌}
 use Rattle.std.proofs.lemmas.Bool.{leb-true}
 use Rattle.form_names.specs.declared.kind.Kind.{Kind}
 use Rattle.form_names.specs.declared.kind.Kind.TheVariants.{Symbol, Expression}
@@ -14,7 +14,7 @@ use Rattle.form_tree.specs.declared.tree.Piece as resolved
 use Rattle.form_tree.specs.declared.tree.Piece.TheVariants as pieces
 use Rattle.form_tree.specs.Tree as tree
 use Rattle.form_check.specs.Refusal.{◌>>=◌}
-use Rattle.form_check.specs.RightSide.{link_of, size_within, exponent, is_below_zero, is_inverted, largest_number, largest_exponent, largest_power, number, expression, by_kind, by_place, name, piece}
+use Rattle.form_check.specs.RightSide.{link_of, size_within, exponent, number_exponent, has_minus, is_below_zero, is_inverted, largest_number, largest_exponent, largest_power, number, expression, by_kind, by_place, name, piece}
 use Rattle.form_check.specs.Sound.{IsPieceSound}
 use Rattle.form_check.proofs.Growing.{bind-Ok, if-Ok, ok_same}
 
@@ -34,6 +34,17 @@ size-of-exponent link power size = by (is_below_zero link power) size
     by true zero = refl
     by true (suc n) = refl
 
+size-of-negated : (size : ℕ) → nat_abs (neg_ℤ (pos size)) ≡ size
+size-of-negated zero = refl
+size-of-negated (suc n) = refl
+
+size-of-number-exponent : (value : ℕ) (link : Link) (power : Option Power) (size : ℕ) → nat_abs (number_exponent value link power size) ≡ size
+size-of-number-exponent value link power size = by ((value == 0) && has_minus power)
+  where
+    by : (b : Bool) → nat_abs (if b then neg_ℤ (pos size) else exponent link power size) ≡ size
+    by false = size-of-exponent link power size
+    by true = size-of-negated size
+
 left-true : (a b : Bool) → (a && b) ≡ true → a ≡ true
 left-true true b is = refl
 left-true false b is = is
@@ -47,10 +58,10 @@ pub record IsFactorPiece (names : List Entry) (stands : ℕ → Bool) (link : Li
 module _ (names : List Entry) (stands : ℕ → Bool) where
   pub number-Ok : (link : Link) (n : Number) (power : Option Power) (p : resolved.Piece) → number link n power ≡ Ok p → IsFactorPiece names stands link p
   number-Ok link n power p is =
-      let fits = if-Ok (nat_le n.value largest_number) (size_within largest_power power >>= (λ size. Ok (pieces.Number (link_of link) n.value (exponent link power size)))) _ _ p is in
-      let sized = bind-Ok (size_within largest_power power) (λ size. Ok (pieces.Number (link_of link) n.value (exponent link power size))) p fits.1 in
-      let k : ℤ = exponent link power sized.0 in
-      let within : nat_abs k ≤ largest_power = rw (size-of-exponent link power sized.0) (size-fits largest_power power sized.0 (omega arith) sized.1) in
+      let fits = if-Ok (nat_le n.value largest_number) (size_within largest_power power >>= (λ size. Ok (pieces.Number (link_of link) n.value (number_exponent n.value link power size)))) _ _ p is in
+      let sized = bind-Ok (size_within largest_power power) (λ size. Ok (pieces.Number (link_of link) n.value (number_exponent n.value link power size))) p fits.1 in
+      let k : ℤ = number_exponent n.value link power sized.0 in
+      let within : nat_abs k ≤ largest_power = rw (size-of-number-exponent n.value link power sized.0) (size-fits largest_power power sized.0 (omega arith) sized.1) in
       subst (IsFactorPiece names stands link) (ok_same sized.2) (record { sound = (leb-true n.value largest_number fits.0, within); factor = tree.number n.value k; pieces = refl })
 
   symbol-Ok : (link : Link) (power : Option Power) (id : ℕ) (p : resolved.Piece) → kind_at names id ≡ Some Symbol → (size_within largest_exponent power >>= (λ size. Ok (pieces.Symbol (link_of link) id (exponent link power size)))) ≡ Ok p → IsFactorPiece names stands link p

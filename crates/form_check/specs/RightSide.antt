@@ -71,6 +71,12 @@ is_below_zero link power = if is_over link then not (has_minus power) else has_m
 abbrev pub exponent : Link → Option Power → ℕ → ℤ
 exponent link power size = if is_below_zero link power then neg_ℤ (pos size) else pos size
 
+-- The exponent of a number. What a negative power or `/` inverts may not be 0: so a 0 with a negative power keeps an
+-- exponent below zero after `/` too.
+abbrev pub number_exponent : ℕ → Link → Option Power → ℕ → ℤ
+number_exponent value link power size =
+    if (value == 0) && has_minus power then neg_ℤ (pos size) else exponent link power size
+
 -- It stands after `/`, or with a negative power. A power of -0 isn't negative.
 abbrev pub is_inverted : Link → Option Power → Bool
 is_inverted link power = is_over link || (has_minus power && not (is_zero power))
@@ -78,7 +84,7 @@ is_inverted link power = is_over link || (has_minus power && not (is_zero power)
 -- a number, up to the largest
 abbrev pub number : Link → Number → Option Power → Result resolved.Piece Refusal
 number link n power =
-    if nat_le n.value largest_number then size_within largest_power power >>= (λ size. Ok (pieces.Number (link_of link) n.value (exponent link power size))) else refused NumberRange n.spot
+    if nat_le n.value largest_number then size_within largest_power power >>= (λ size. Ok (pieces.Number (link_of link) n.value (number_exponent n.value link power size))) else refused NumberRange n.spot
 
 -- the terms of an expression, if it stands at the start of the module and isn't inverted
 abbrev pub expression : (ℕ → Bool) → Link → Spelled → Option Power → ℕ → Result resolved.Piece Refusal

@@ -71,7 +71,7 @@ fn whole_number(link: Link, number: Number, power: Option<Power>) -> Result<Piec
     Ok(Piece::Number {
         link: link_of(link),
         value: number.value,
-        power: exponent(link, power, size),
+        power: number_exponent(number.value, link, power, size),
     })
 }
 
@@ -173,6 +173,18 @@ fn exponent(link: Link, power: Option<Power>, size: u32) -> i32
         -size
     } else {
         size
+    }
+}
+
+/// The exponent of a number: a 0 with a negative power keeps an exponent below zero after `/` too.
+fn number_exponent(value: u128, link: Link, power: Option<Power>, size: u32) -> i32
+    requires { size ≤ definition.largest_exponent }
+    ensures { result ≡ definition.number_exponent value link power size }
+{
+    if value == 0 && has_minus(power) {
+        -(size as i32)
+    } else {
+        exponent(link, power, size)
     }
 }
 

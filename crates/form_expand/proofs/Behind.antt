@@ -11,66 +11,16 @@ use Rattle.form_expand.specs.Reading.{Part, Reading, fresh, closed, begun, linke
 use Rattle.std.specs.Prelude.{None}
 use Rattle.form_expand.specs.Numbers.{number_list, symbol_list}
 use Rattle.form_expand.specs.Stored.{terms_of}
-use Rattle.form_expand.specs.Readers.{is_none_around, ends_before_piece, IsRead}
-use Rattle.form_expand.proofs.Places.{drop_past}
+use Rattle.form_expand.specs.Readers.{EndsProduct, product_part, in_product}
 use Rattle.form_expand.proofs.Listings.{followed_nothing, followed_last, followed_assoc, limited_nothing, limited_again, limited_followed, limited_followed_last}
 
-closed_fresh : (max : ℕ) → closed (fresh max) ≡ nothing
+pub closed_fresh : (max : ℕ) → closed (fresh max) ≡ nothing
 unfolding closed row
 closed_fresh max = ap (limited max) (followed_nothing nothing) ∙ limited_nothing max
 
 limited_closed : (p : Part) → limited p.max (closed p) ≡ closed p
 unfolding closed
 limited_closed p = limited_again p.max (followed p.sum (signed p.is_minus (row p.max p.factors)))
-
--- The outermost sum has no product before the one at hand, and this limit.
-
-module _ (all : List Stored) (max : ℕ) where
-  abbrev pub IsAlone : Part → Type 0
-  IsAlone p = (p.sum ≡ nothing) × (p.max ≡ max)
-
-  alone_first : (link : Link) → IsAlone (linked link (fresh max))
-  alone_first links.Plus = (closed_fresh max, refl)
-  alone_first links.Minus = (closed_fresh max, refl)
-  alone_first links.Times = (refl, refl)
-
-  -- the first piece
-  alone_begun : (piece : Piece) → IsAlone (outermost ((fed all (beginning max) piece).top) ((fed all (beginning max) piece).outer))
-  unfolding fed
-  alone_begun (pieces.Number link value power) = alone_first link
-  alone_begun (pieces.Symbol link symbol power) = alone_first link
-  alone_begun (pieces.Stored link expression power) = alone_first link
-  alone_begun (pieces.Open link) = alone_first link
-  alone_begun (pieces.Close power) = (refl, refl)
-
-  alone_times : (link : Link) (p : Part) → begins link ≡ false → IsAlone p → IsAlone (linked link p)
-  alone_times links.Plus p e h = cc
-  alone_times links.Minus p e h = cc
-  alone_times links.Times p e h = h
-
-  -- a piece that begins no product of the outermost sum
-  alone_on : (top : Part) (outer : List Part) (piece : Piece) → is_none_around outer && begins_product piece ≡ false → IsAlone (outermost top outer)
-      → IsAlone (outermost ((fed all (record { top = top; outer = outer }) piece).top) ((fed all (record { top = top; outer = outer }) piece).outer))
-  unfolding fed
-  alone_on top [] (pieces.Number link value power) e h = alone_times link top e h
-  alone_on top [] (pieces.Symbol link symbol power) e h = alone_times link top e h
-  alone_on top [] (pieces.Stored link expression power) e h = alone_times link top e h
-  alone_on top [] (pieces.Open link) e h = alone_times link top e h
-  alone_on top [] (pieces.Close power) e h = h
-  alone_on top (p ∷ ps) (pieces.Number link value power) e h = h
-  alone_on top (p ∷ ps) (pieces.Symbol link symbol power) e h = h
-  alone_on top (p ∷ ps) (pieces.Stored link expression power) e h = h
-  alone_on top (p ∷ ps) (pieces.Open link) e h = h
-  alone_on top (p ∷ []) (pieces.Close power) e h = h
-  alone_on top (p ∷ q ∷ ps) (pieces.Close power) e h = h
-
-  pub alone_fed : (read : ℕ) (r : Reading) (piece : Piece) → ends_before_piece read r.outer piece ≡ false → (read ≡ 0 → r ≡ beginning max) → IsAlone (outermost r.top r.outer)
-      → IsAlone (outermost ((fed all r piece).top) ((fed all r piece).outer))
-  alone_fed zero r piece e first h = subst (λ (s : Reading). IsAlone (outermost ((fed all s piece).top) ((fed all s piece).outer))) (sym (first refl)) (alone_begun piece)
-  alone_fed (suc read) r piece e first h =
-      let some = lt-ltb 0 (suc read) (omega arith) in
-      let here = rw some at e in
-      alone_on r.top r.outer piece here h
 
 -- What was read of the outermost sum before stands before what is read of it.
 
@@ -208,56 +158,33 @@ module _ (all : List Stored) (top : Part) where
       let product = signed top.is_minus (row top.max top.factors) in
       ap (limited top.max) (ap (λ l. followed l product) alone ∙ followed_nothing product ∙ sym (followed_last product) ∙ ap (followed product) (sym (closed_fresh top.max)))
 
--- What a reader has read.
+pub read_none : (all : List Stored) (r : Reading) → read_from all r [] ≡ closed (outermost r.top r.outer)
+unfolding read_from
+read_none all r = refl
 
-ends_true : (read : ℕ) (outer : List Part) (piece : Piece) → ends_before_piece read outer piece ≡ true → (outer ≡ []) × (begins_product piece ≡ true)
-ends_true read outer piece e = step (ltb 0 read) outer e
-  where
-    step : (b : Bool) (ps : List Part) → b && (is_none_around ps && begins_product piece) ≡ true → (ps ≡ []) × (begins_product piece ≡ true)
-    step true [] h = (refl, h)
-    step true (p ∷ ps) h = cc
-    step false ps h = cc
-
-module _ (max : ℕ) (all : List Stored) (ps : List Piece) (read : ℕ) (r : Reading) (part : Part)
-    (list : list_of_pieces max all ps ≡ read_from all r (drop read ps)) (alone : IsAlone all max (outermost r.top r.outer)) (is : part ≡ outermost r.top r.outer) where
-  -- up to a further product
-  pub read_before : (piece : Piece) (more : List Piece) → read ≤ length ps → drop read ps ≡ piece ∷ more → ends_before_piece read r.outer piece ≡ true → IsRead max all ps part read
-  read_before piece more within rest ends =
-      let e = ends_true read r.outer piece ends in
-      let outside : r ≡ record { top = r.top; outer = [] } = ap (λ (outer : List Part). record { top = r.top; outer = outer }) e.0 in
-      let top : part ≡ r.top = is ∙ ap (outermost r.top) e.0 in
-      let h : IsAlone all max r.top = subst (λ (outer : List Part). IsAlone all max (outermost r.top outer)) e.0 alone in
-      let p : Part = r.top in
-      let here : list_of_pieces max all ps ≡ limited p.max (followed (signed p.is_minus (row p.max p.factors)) (list_of_pieces p.max all (drop read ps))) =
-      list ∙ ap (λ (s : Reading). read_from all s (drop read ps)) outside ∙ ap (read_from all (record { top = p; outer = [] })) rest
-      ∙ product_before all p piece more e.1 h.0 ∙ ap (λ qs. limited p.max (followed (signed p.is_minus (row p.max p.factors)) (list_of_pieces p.max all qs))) (sym rest) in
-      let there = ap (λ n. limited n (followed (signed p.is_minus (row n p.factors)) (list_of_pieces n all (drop read ps)))) h.1 in
-      record {
-        within = within;
-        limit = ap (λ (q : Part). q.max) top ∙ h.1;
-        alone = ap (λ (q : Part). q.sum) top ∙ h.0;
-        list = here ∙ there ∙ ap (λ (q : Part). limited max (followed (signed q.is_minus (row max q.factors)) (list_of_pieces max all (drop read ps)))) (sym top);
-      }
-
-  -- to the end
-  pub read_last : length ps ≤ read → IsRead max all ps part (length ps)
-  unfolding read_from
-  read_last past =
-      let p : Part = outermost r.top r.outer in
-      let none = drop_past ps read past in
-      let end = drop_past ps (length ps) (omega arith) in
-      let here : list_of_pieces max all ps ≡ closed p = list ∙ ap (read_from all r) none in
-      let there = ap (λ n. limited n (followed (signed p.is_minus (row n p.factors)) (list_of_pieces n all []))) alone.1 in
-      record {
-        within = omega arith;
-        limit = ap (λ (q : Part). q.max) is ∙ alone.1;
-        alone = ap (λ (q : Part). q.sum) is ∙ alone.0;
-        list =
-            here ∙ product_last all p alone.0 ∙ there
-            ∙ ap (λ (q : Part). limited max (followed (signed q.is_minus (row max q.factors)) (list_of_pieces max all []))) (sym is)
-            ∙ ap (λ qs. limited max (followed (signed part.is_minus (row max part.factors)) (list_of_pieces max all qs))) (sym end);
-      }
+-- a product that was read up to where it ends
+pub read_ends : (max : ℕ) (all : List Stored) (is_minus : Bool) (factors : List Listing) (rest : List Piece) → EndsProduct rest
+    → read_from all (in_product max is_minus factors) rest ≡ limited max (followed (signed is_minus (row max factors)) (list_of_pieces max all rest))
+read_ends max all is_minus factors [] ends = read_none all (in_product max is_minus factors) ∙ product_last all (product_part max is_minus factors) refl
+read_ends max all is_minus factors (p ∷ ps) ends = product_before all (product_part max is_minus factors) p ps ends refl
 
 pub pieces_of_none : (max : ℕ) (all : List Stored) → list_of_pieces max all [] ≡ nothing
 unfolding read_from
 pieces_of_none max all = closed_fresh max
+
+-- the list of pieces is within its limit
+
+limited_read : (all : List Stored) (top : Part) (outer : List Part) (ps : List Piece)
+    → limited ((outermost top outer).max) (read_from all (record { top = top; outer = outer }) ps) ≡ read_from all (record { top = top; outer = outer }) ps
+unfolding read_from
+limited_read all top outer [] = limited_closed (outermost top outer)
+limited_read all top outer (piece ∷ ps) =
+    let r = fed all (record { top = top; outer = outer }) piece in
+    ap (λ n. limited n (read_from all r ps)) (sym (max_fed all nothing top outer piece)) ∙ limited_read all r.top r.outer ps
+
+pub limited_pieces : (max : ℕ) (all : List Stored) (ps : List Piece) → limited max (list_of_pieces max all ps) ≡ list_of_pieces max all ps
+limited_pieces max all ps = limited_read all (fresh max) [] ps
+
+pub first_power : (max : ℕ) (all : List Stored) (ps : List Piece) → powers max (list_of_pieces max all ps) 1 ≡ list_of_pieces max all ps
+unfolding powers
+first_power max all ps = limited_pieces max all ps

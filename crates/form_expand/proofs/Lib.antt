@@ -1,10 +1,11 @@
 pub mod Behind
-pub mod Frames
+pub mod Keeping
 pub mod Levels
 pub mod Listings
+pub mod Literals
 pub mod Lookups
 pub mod NumberLists
-pub mod Outer
+pub mod Parenthesized
 pub mod Places
 pub mod Powered
 pub mod Powers

@@ -1,14 +1,17 @@
 -- The list of a number's power, by the sign and size of the power.
 use Rattle.std.proofs.Common.{◌≡◌, ℕ, zero, suc, ◌<◌, ◌≤◌, Bool, true, false, cond, leb, ℤ, pos, negsuc, nat_abs, refl, sym, ap, ◌∙◌, arith}
-use Rattle.std.specs.Prelude.{Result, Ok, Err}
+use Rattle.std.specs.Prelude.{Option, Some, None, Result, Ok, Err}
+use Rattle.std.specs.Option.{ok_or}
+use Rattle.std.specs.Result.{result_ok}
 use Rattle.std.specs.Int.Signed.{lt_z}
 use Rattle.std.proofs.lemmas.Bool.{lt-leb, le-leb, le-ltb}
 use Rattle.form_base.specs.declared.cause.Cause.TheVariants.{Overflow}
-use Rattle.form_frac.specs.Fraction.{Fraction, largest, make}
+use Rattle.form_frac.specs.Fraction.{Fraction, largest, make, is_zero}
 use Rattle.form_frac.specs.declared.frac_error.FracError.{FracError}
 use Rattle.form_term.specs.Monomial.{unit}
-use Rattle.form_expand.specs.Listing.{Listing, single, refusal}
-use Rattle.form_expand.specs.Numbers.{of_fraction, number_list}
+use Rattle.form_normal.specs.Product.{number_alone}
+use Rattle.form_expand.specs.Listing.{Listing, nothing, single, refusal}
+use Rattle.form_expand.specs.Numbers.{raised, of_coefficient, of_fraction, number_list}
 
 pub number_of_none : (value : ℕ) (power : ℤ) → nat_abs power ≡ 0 → number_list value power ≡ single unit
 unfolding number_list
@@ -31,3 +34,19 @@ number_made value (pos (suc k)) base some h e =
     let here = rw above at e in
     rw (le-leb value largest h) (ap (λ b. of_fraction b (suc k)) here)
 number_made value (negsuc k) base some h e = rw (le-leb value largest h) (ap (λ b. of_fraction b (suc k)) e)
+
+pub ok_from : {T E : Type 0} (r : Result T E) (x : T) → Some x ≡ result_ok r → r ≡ Ok x
+ok_from (Ok y) x e = cc
+ok_from (Err y) x e = absurd (cc)
+
+pub some_from : {E : Type 0} (o : Option Fraction) (e : E) (x : Fraction) → Ok x ≡ ok_or o e → o ≡ Some x
+some_from None e x h = absurd (cc)
+some_from (Some y) e x h = cc
+
+-- a power that is one number
+pub number_is_alone : (value : ℕ) (power : ℤ) (base number : Fraction) → 1 ≤ nat_abs power → value ≤ largest → Ok base ≡ cond (lt_z power (pos 0)) (make (pos 1) (pos value)) (make (pos value) (pos 1))
+    → is_zero base ≡ false → raised base (nat_abs power) ≡ Some number → number_list value power ≡ single (number_alone number)
+number_is_alone value power base number some h e present made =
+    sym (number_made value power (Ok base) some h e)
+    ∙ ap (λ (b : Bool). cond b nothing (of_coefficient (raised base (nat_abs power)))) present
+    ∙ ap of_coefficient made

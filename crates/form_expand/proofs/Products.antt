@@ -1,18 +1,19 @@
 -- How a product goes on when a term is taken from its last factor that is open.
 use Rattle.std.proofs.Common.{◌≡◌, ℕ, zero, suc, ◌+◌, ◌-◌, ◌<◌, List, [], ◌∷◌, ◌++◌, length, map, refl, sym, ap, ◌∙◌, arith}
-use Rattle.std.specs.Prelude.{Option, Some, None, Result, Ok, Err}
+use Rattle.std.specs.Prelude.{Option, Some, None, Result, Ok, Err, replicate, option_to_list}
 use Rattle.std.proofs.lemmas.List.{map-append}
 use Rattle.form_term.specs.declared.monomial.Monomial.{Monomial}
 use Rattle.form_expand.specs.declared.error.ExpandError.{ExpandError}
 use Rattle.form_expand.specs.declared.product.Level as levels
 use Rattle.form_expand.specs.declared.product.Queued.{Queued}
 use Rattle.form_expand.specs.declared.factor.Factor.{Factor}
-use Rattle.form_expand.specs.Listing.{Listing, nothing, before, limited, pairs}
-use Rattle.form_expand.specs.Left.{Level, Waiting, left_at, left_past, left_past_all, left_of_levels, row, row_behind, row_left}
+use Rattle.form_expand.specs.Listing.{Listing, nothing, before, limited, pairs, powers}
+use Rattle.form_expand.specs.Left.{Level, Waiting, left_at, left_past, left_past_all, left_of_levels, row, row_behind, row_left, times_by}
 use Rattle.form_expand.specs.Next.{Takes, Goes}
-use Rattle.form_expand.specs.Factors.{factor_whole}
+use Rattle.form_expand.specs.Factors.{factor_whole, factor_left}
 use Rattle.form_expand.specs.Products.{level_of, waiting_of, queued_of, level_at_first, levels_left}
-use Rattle.form_expand.proofs.Levels.{left_past_first, left_past_push, left_of_first}
+use Rattle.form_expand.proofs.Levels.{done_at, nothing_past, left_of_power, left_past_first, left_past_push, left_of_first}
+use Rattle.form_expand.proofs.Taking.{times_by_end}
 use Rattle.form_expand.proofs.Rows.{row_closes, row_gives, row_opens, row_refuses, row_done}
 
 module _ (max : ℕ) (below : List levels.Level) (old new : levels.Level) where
@@ -88,3 +89,55 @@ product_begins max first waiting level e =
 pub product_of_none : (max : ℕ) (waiting : List Queued) → levels_left max [] waiting ≡ left_past_all max (map (waiting_of max) waiting) (row max [])
 unfolding levels_left row_left left_of_levels row
 product_of_none max waiting = refl
+
+-- Copies of a factor.
+
+copies_last : {X : Type 0} (k : ℕ) (x : X) → replicate k x ++ x ∷ [] ≡ replicate (k + 1) x
+copies_last zero x = refl
+copies_last (suc k) x = let e : suc k + 1 ≡ suc (k + 1) = omega arith in rw e (ap (λ xs. x ∷ xs) (copies_last k x))
+
+-- a further copy waits
+pub copies_push : (max : ℕ) (waiting : List Queued) (f : Factor) (l : Listing) (k : ℕ) → map (waiting_of max) waiting ≡ replicate k (record { count = 0; list = l }) → factor_whole max f ≡ l
+    → map (waiting_of max) (waiting ++ record { factor = f; count = 0 } ∷ []) ≡ replicate (k + 1) (record { count = 0; list = l })
+copies_push max waiting f l k all e =
+    map-append (waiting_of max) waiting (record { factor = f; count = 0 } ∷ [])
+    ∙ ap (λ ws. ws ++ record { count = 0; list = factor_whole max f } ∷ []) all
+    ∙ ap (λ (m : Listing). replicate k (record { count = 0; list = l }) ++ record { count = 0; list = m } ∷ []) e
+    ∙ copies_last k (record { count = 0; list = l })
+
+-- a power of copies, at its beginning
+pub copies_begin : (max : ℕ) (waiting : List Queued) (level : levels.Level) (l : Listing) (k : ℕ) → map (waiting_of max) waiting ≡ replicate k (record { count = 0; list = l })
+    → level_of max level ≡ record { count = 0; list = l; opened = l } → levels_left max (level ∷ []) waiting ≡ powers max l (suc k)
+unfolding levels_left row_left left_of_levels
+copies_begin max waiting level l k all e =
+    ap (λ ws. left_past_all max ws (left_at max (level_of max level) nothing)) all
+    ∙ ap (λ (s : Level). left_past_all max (replicate k (record { count = 0; list = l })) (left_at max s nothing)) e
+    ∙ left_of_power max l k
+
+-- the first of the levels goes where it has no further term
+pub spent_bottom : (max : ℕ) (below : List levels.Level) (top : Option levels.Level) (s : levels.Level) → below ≡ [] → top ≡ Some s → factor_left max s.factor ≡ nothing
+    → left_of_levels max nothing (map (level_of max) below) ≡ left_of_levels max nothing (map (level_of max) (below ++ option_to_list top))
+unfolding left_of_levels
+spent_bottom max below top s none is spent =
+    let l = level_of max s in
+    let opened : l.opened ≡ nothing = ap (times_by s.left) spent ∙ times_by_end s.left None in
+    let gone : left_at max l nothing ≡ nothing = ap (λ o. left_at max (record { count = l.count; list = l.list; opened = o }) nothing) opened ∙ done_at max l.count l.list nothing ∙ nothing_past max l.count l.list in
+    rw (none, is) (sym gone)
+
+-- levels behind others
+left_of_append : (max : ℕ) (x : Listing) (ls ms : List Level) → left_of_levels max x (ls ++ ms) ≡ left_of_levels max (left_of_levels max x ls) ms
+unfolding left_of_levels
+left_of_append max x [] ms = refl
+left_of_append max x (l ∷ ls) ms = left_of_append max (left_at max l x) ls ms
+
+-- the same is left where the same is left of the first of them
+pub levels_same : (max : ℕ) (was new opened : List levels.Level) (waiting : List Queued)
+    → left_of_levels max nothing (map (level_of max) new) ≡ left_of_levels max nothing (map (level_of max) was)
+    → levels_left max (new ++ opened) waiting ≡ levels_left max (was ++ opened) waiting
+unfolding levels_left row_left
+levels_same max was new opened waiting e =
+    let last = map (level_of max) opened in
+    ap (λ all. left_past_all max (map (waiting_of max) waiting) (left_of_levels max nothing all)) (map-append (level_of max) new opened)
+    ∙ ap (left_past_all max (map (waiting_of max) waiting))
+    (left_of_append max nothing (map (level_of max) new) last ∙ ap (λ x. left_of_levels max x last) e ∙ sym (left_of_append max nothing (map (level_of max) was) last))
+    ∙ ap (λ all. left_past_all max (map (waiting_of max) waiting) (left_of_levels max nothing all)) (sym (map-append (level_of max) was opened))

@@ -8,13 +8,15 @@ use Rattle.form_tree.specs.declared.tree.Piece.{Piece}
 use Rattle.form_expand.specs.declared.error.ExpandError.{ExpandError}
 use Rattle.form_expand.specs.declared.error.ExpandError.TheVariants.{Refused, Memory}
 use Rattle.form_expand.specs.declared.stored.Stored.{Stored}
-use Rattle.form_expand.specs.Listing.{Listing, nothing, refusal, before, limited, followed, signed, with_sign}
+use Rattle.form_expand.specs.declared.literal.Literal.{Literal}
+use Rattle.form_expand.specs.Literals.{IsLiteral}
+use Rattle.form_expand.specs.Listing.{Listing, nothing, single, refusal, before, limited, followed, signed, with_sign}
 use Rattle.form_expand.specs.Next.{Gives}
 use Rattle.form_expand.specs.Left.{row}
 use Rattle.form_expand.specs.Reading.{Part, list_of_pieces, read_from, closed}
 use Rattle.form_expand.specs.Readers.{IsRead}
 use Rattle.form_expand.proofs.Behind.{pieces_of_none}
-use Rattle.form_expand.proofs.Listings.{followed_before, followed_nothing, followed_refusal, limited_more, limited_none, limited_nothing, limited_refusal, limited_limited}
+use Rattle.form_expand.proofs.Listings.{followed_before, followed_nothing, followed_refusal, followed_last, limited_more, limited_none, limited_nothing, limited_refusal, limited_limited, limited_within}
 
 pub gives_from : (r : Result (Option Monomial) ExpandError) (old same new : Listing) → old ≡ same → Gives r same new → Gives r old new
 gives_from r old same new e h = subst (λ (l : Listing). Gives r l new) (sym e) h
@@ -58,14 +60,54 @@ stream_done limit given is_minus all pieces product h e =
     ∙ limited_nothing (limit - given)
 
 -- a product is read
-pub stream_read : (limit given : ℕ) (all : List Stored) (pieces : List Piece) (part : Part) (read : ℕ) (was_minus : Bool) (old new : Listing) → IsRead limit all pieces part read
-    → old ≡ nothing → new ≡ row limit part.factors
-    → limited (limit - given) (followed (signed part.is_minus new) (list_of_pieces limit all (drop read pieces)))
+pub stream_read : (limit given : ℕ) (all : List Stored) (pieces rest : List Piece) (is_minus was_minus : Bool) (factors : List Listing) (old new : Listing)
+    → IsRead limit all pieces is_minus factors rest → old ≡ nothing → new ≡ row limit factors
+    → limited (limit - given) (followed (signed is_minus new) (list_of_pieces limit all rest))
     ≡ limited (limit - given) (followed (signed was_minus old) (list_of_pieces limit all pieces))
-stream_read limit given all pieces part read was_minus old new h done made =
-    let rest = list_of_pieces limit all (drop read pieces) in
-    let product = followed (signed part.is_minus (row limit part.factors)) rest in
-    ap (λ l. limited (limit - given) (followed (signed part.is_minus l) rest)) made
+stream_read limit given all pieces rest is_minus was_minus factors old new h done made =
+    let behind = list_of_pieces limit all rest in
+    let product = followed (signed is_minus (row limit factors)) behind in
+    ap (λ l. limited (limit - given) (followed (signed is_minus l) behind)) made
     ∙ sym (limited_limited (limit - given) limit product (omega arith))
-    ∙ ap (limited (limit - given)) (sym h.list)
+    ∙ ap (limited (limit - given)) (sym h)
     ∙ sym (stream_on limit given was_minus (list_of_pieces limit all pieces) old done)
+
+-- a list of one term, within the limit of the whole
+one_limited : (n k : ℕ) (is_minus : Bool) (m : Monomial) (rest : Listing) → n ≤ k → limited n (followed (signed is_minus (limited k (single m))) rest) ≡ limited n (followed (signed is_minus (single m)) rest)
+one_limited n zero is_minus m rest h =
+    let e : n ≡ 0 = omega arith in
+    rw e
+    (ap (λ l. limited 0 (followed (signed is_minus l) rest)) (limited_none m nothing)
+    ∙ ap (limited 0) (followed_refusal ExpandLimit rest)
+    ∙ limited_refusal 0 ExpandLimit
+    ∙ sym (limited_none (with_sign is_minus m) (followed (signed is_minus nothing) rest))
+    ∙ ap (limited 0) (sym (followed_before (with_sign is_minus m) (signed is_minus nothing) rest)))
+one_limited n (suc k) is_minus m rest h = ap (λ l. limited n (followed (signed is_minus l) rest)) (limited_within (suc k) (single m) (omega arith))
+
+-- a product of numbers and symbols is read, whose term is next
+pub stream_literal : (limit given : ℕ) (all : List Stored) (pieces : List Piece) (literal : Literal) (read : ℕ) (was_minus : Bool) (product : Listing) → IsLiteral limit all pieces literal read → product ≡ nothing
+    → limited (limit - given) (followed (signed literal.is_minus (before literal.term product)) (list_of_pieces limit all (drop read pieces)))
+    ≡ limited (limit - given) (followed (signed was_minus product) (list_of_pieces limit all pieces))
+stream_literal limit given all pieces literal read was_minus product h done =
+    let rest = list_of_pieces limit all (drop read pieces) in
+    ap (λ l. limited (limit - given) (followed (signed literal.is_minus (before literal.term l)) rest)) done
+    ∙ sym (one_limited (limit - given) limit literal.is_minus literal.term rest (omega arith))
+    ∙ sym (limited_limited (limit - given) limit (followed (signed literal.is_minus (limited limit (single literal.term))) rest) (omega arith))
+    ∙ ap (limited (limit - given)) (sym h.list)
+    ∙ sym (stream_on limit given was_minus (list_of_pieces limit all pieces) product done)
+
+map_same : {X : Type 0} (f : X → X) (h : (x : X) → f x ≡ x) (xs : List X) → map f xs ≡ xs
+map_same f h [] = refl
+map_same f h (x ∷ xs) = ap (λ y. y ∷ map f xs) (h x) ∙ ap (λ ys. x ∷ ys) (map_same f h xs)
+
+signed_plus : (l : Listing) → signed false l ≡ l
+signed_plus l = ap (λ ms. record { terms = ms; end = l.end }) (map_same (with_sign false) (λ m. refl) l.terms)
+
+-- a product with nothing to read behind it
+pub stream_alone : (limit : ℕ) (all : List Stored) (product : Listing) → limited (limit - 0) (followed (signed false product) (list_of_pieces limit all [])) ≡ limited limit product
+stream_alone limit all product =
+    let e : limit - 0 ≡ limit = omega arith in
+    rw e
+    (ap (λ l. limited limit (followed l (list_of_pieces limit all []))) (signed_plus product)
+    ∙ ap (λ l. limited limit (followed product l)) (pieces_of_none limit all)
+    ∙ ap (limited limit) (followed_last product))

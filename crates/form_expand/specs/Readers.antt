@@ -1,28 +1,61 @@
 -- What a reader has read.
-use Rattle.std.specs.Prelude.{◌≡◌, ℕ, ◌≤◌, Bool, true, false, ◌&&◌, nat_lt, List, [], ◌∷◌, length, drop, map, reverse}
+use Rattle.std.specs.Prelude.{◌≡◌, ℕ, Bool, true, false, List, [], ◌∷◌}
+use Rattle.form_tree.specs.declared.tree.Link.{Link}
+use Rattle.form_tree.specs.declared.tree.Link.TheVariants as links
 use Rattle.form_tree.specs.declared.tree.Piece.{Piece}
-use Rattle.form_expand.specs.declared.reader.Reader.{Reader}
+use Rattle.form_tree.specs.declared.tree.Piece.TheVariants as pieces
 use Rattle.form_expand.specs.declared.stored.Stored.{Stored}
-use Rattle.form_expand.specs.Frames.{part_of}
 use Rattle.form_expand.specs.Left.{row}
 use Rattle.form_expand.specs.Listing.{Listing, nothing, limited, followed, signed}
-use Rattle.form_expand.specs.Reading.{Part, Reading, begins_product, list_of_pieces}
+use Rattle.form_expand.specs.Reading.{Part, Reading, fresh, begins_product, read_from, list_of_pieces}
 
-abbrev pub reading_of : Reader → Reading
-reading_of r = record { top = part_of r.top; outer = reverse (map part_of r.outer.items) }
+abbrev pub is_minus_link : Link → Bool
+is_minus_link links.Plus = false
+is_minus_link links.Minus = true
+is_minus_link links.Times = false
 
--- whether there are no sums around
-abbrev pub is_none_around : List Part → Bool
-is_none_around [] = true
-is_none_around (p ∷ ps) = false
+-- whether the product that begins with this piece is subtracted
+abbrev pub is_minus_piece : Piece → Bool
+is_minus_piece (pieces.Number link value power) = is_minus_link link
+is_minus_piece (pieces.Symbol link symbol power) = is_minus_link link
+is_minus_piece (pieces.Stored link expression power) = is_minus_link link
+is_minus_piece (pieces.Open link) = is_minus_link link
+is_minus_piece (pieces.Close power) = false
 
--- whether a further product of the outermost sum begins with this piece, where so many were read before
-abbrev pub ends_before_piece : ℕ → List Part → Piece → Bool
-ends_before_piece read outer piece = nat_lt 0 read && (is_none_around outer && begins_product piece)
+-- a piece as that of a further factor
+abbrev pub joined : Piece → Piece
+joined (pieces.Number link value power) = pieces.Number links.Times value power
+joined (pieces.Symbol link symbol power) = pieces.Symbol links.Times symbol power
+joined (pieces.Stored link expression power) = pieces.Stored links.Times expression power
+joined (pieces.Open link) = pieces.Open links.Times
+joined (pieces.Close power) = pieces.Close power
 
--- The product at hand of this sum, before which there is none, was read from the front of these pieces, and has so many.
-pub record IsRead (max : ℕ) (all : List Stored) (pieces : List Piece) (part : Part) (read : ℕ) : Type 0 where
-  pub within : read ≤ length pieces
-  pub limit : part.max ≡ max
-  pub alone : part.sum ≡ nothing
-  pub list : list_of_pieces max all pieces ≡ limited max (followed (signed part.is_minus (row max part.factors)) (list_of_pieces max all (drop read pieces)))
+-- a sum of which only this product is read
+abbrev pub product_part : ℕ → Bool → List Listing → Part
+product_part max is_minus factors = record { max = max; sum = nothing; is_minus = is_minus; factors = factors }
+
+abbrev pub in_product : ℕ → Bool → List Listing → Reading
+in_product max is_minus factors = record { top = product_part max is_minus factors; outer = [] }
+
+-- a parenthesis begins in it
+abbrev pub in_parenthesis : ℕ → Bool → List Listing → Reading
+in_parenthesis max is_minus factors = record { top = fresh max; outer = product_part max is_minus factors ∷ [] }
+
+-- a product that begins there, or the end
+abbrev pub EndsProduct : List Piece → Type 0
+EndsProduct [] = Unit {0}
+EndsProduct (p ∷ ps) = begins_product p ≡ true
+
+-- this piece and perhaps more were read, which makes these factors those
+abbrev pub IsReadFactor : ℕ → List Stored → Piece → List Piece → List Listing → List Listing → List Piece → Type 0
+IsReadFactor max all piece more old new rest = (is_minus : Bool) → read_from all (in_product max is_minus old) (joined piece ∷ more) ≡ read_from all (in_product max is_minus new) rest
+
+abbrev pub IsReadParenthesis : ℕ → List Stored → List Piece → List Listing → List Listing → List Piece → Type 0
+IsReadParenthesis max all ps old new rest = (is_minus : Bool) → read_from all (in_parenthesis max is_minus old) ps ≡ read_from all (in_product max is_minus new) rest
+
+abbrev pub IsReadOn : ℕ → List Stored → List Piece → List Listing → List Listing → List Piece → Type 0
+IsReadOn max all ps old new rest = ((is_minus : Bool) → read_from all (in_product max is_minus old) ps ≡ read_from all (in_product max is_minus new) rest) × EndsProduct rest
+
+-- a product with this sign and these factors was read, and this is behind it
+abbrev pub IsRead : ℕ → List Stored → List Piece → Bool → List Listing → List Piece → Type 0
+IsRead max all ps is_minus factors rest = list_of_pieces max all ps ≡ limited max (followed (signed is_minus (row max factors)) (list_of_pieces max all rest))

@@ -1,5 +1,6 @@
 -- What is left of the lists that terms are being taken from.
-use Rattle.std.specs.Prelude.{ℕ, suc, ◌-◌, List, ◌++◌, map, option_to_list}
+use Rattle.std.specs.Prelude.{ℕ, suc, ◌-◌, List, ◌++◌, map, drop, option_to_list, None}
+use Rattle.form_term.specs.declared.monomial.Monomial.{Monomial}
 use Rattle.form_expand.specs.declared.walk.Walk.{Walk}
 use Rattle.form_expand.specs.declared.power.Step.{Step}
 use Rattle.form_expand.specs.declared.power.Power.{Power}
@@ -29,3 +30,11 @@ steps_left max list opened waiting = row_left max (map (step_level list) opened)
 
 abbrev pub power_left : ℕ → Power → Listing
 power_left max p = steps_left max (listing p.whole) (p.below.items ++ option_to_list p.top) p.waiting.items
+
+-- the list of these terms, which is done behind them
+abbrev pub all_of : List Monomial → Listing
+all_of terms = record { terms = terms; end = None }
+
+-- the same from a place on
+abbrev pub terms_left : ℕ → List Monomial → Listing
+terms_left place terms = all_of (drop place terms)

@@ -32,7 +32,7 @@ impl Expansion<'_> {
     pub fn next(&mut self, alloc: Global) -> Result<Option<Monomial>, ExpandError>
         ensures { Gives result self.old self.new }
     {
-        self.stream.next(alloc)
+        self.stream.next(alloc, u64::MAX)
     }
 }
 

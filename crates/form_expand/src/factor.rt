@@ -5,20 +5,27 @@ ghost use Rattle.form_expand.specs.Kept.{listing};
 ghost use Rattle.form_expand.specs.Left.{times_by};
 ghost use Rattle.form_expand.specs.Listing.{nothing, powers};
 ghost use Rattle.form_expand.specs.Next.{Gives};
+ghost use Rattle.form_expand.specs.Reading.{list_of_pieces};
 
 use crate::ExpandError;
+use crate::parenthesis::Parenthesis;
 use crate::power::Power;
+use crate::stored::Stored;
 use crate::walk::Walk;
 use crate::whole::Whole;
 use form_term::Monomial;
+use form_tree::Piece;
 use std::alloc::{AllocError, Global};
 
 /// A factor of a product, whose terms are taken one by one, again and again.
+#[cycle(list)]
 #[derive(Drop)]
 pub enum Factor<'a> {
-    /// A list alone.
+    /// A list that is there as a whole.
     Once(Walk<'a>),
+    /// A power of such a list.
     Power(Box<Power<'a>>),
+    Parenthesis(Box<Parenthesis<'a>>),
 }
 
 impl<'a> Factor<'a> {
@@ -36,8 +43,39 @@ impl<'a> Factor<'a> {
         }
     }
 
+    /// The sum of these pieces to a power.
+    pub fn parenthesis(
+        alloc: Global,
+        limit: u64,
+        stored: &'a [Stored],
+        pieces: &'a [Piece],
+        power: u32,
+    ) -> Result<Factor<'a>, AllocError>
+        ensures { IfOk result (λ factor. factor_whole limit factor ≡ powers limit (list_of_pieces limit stored.now pieces.now) power) }
+    {
+        if power == 0 {
+            return Ok(Factor::Once(Walk::new(Whole::single(Monomial::unit(alloc)))));
+        }
+        let parenthesis = Parenthesis::new(alloc, limit, stored, pieces, power - 1);
+        Ok(Factor::Parenthesis(Box::new(alloc, parenthesis)?))
+    }
+
+    /// The sum of these pieces, from its first term on.
+    pub fn alone(
+        alloc: Global,
+        limit: u64,
+        stored: &'a [Stored],
+        pieces: &'a [Piece],
+    ) -> Result<Factor<'a>, AllocError>
+        ensures whole { IfOk result (λ factor. (max : ℕ) → factor_whole max factor ≡ powers limit (list_of_pieces limit stored.now pieces.now) 1) }
+        ensures left { IfOk result (λ factor. (max : ℕ) → factor_left max factor ≡ powers limit (list_of_pieces limit stored.now pieces.now) 1) }
+    {
+        let parenthesis = Parenthesis::new(alloc, limit, stored, pieces, 0);
+        Ok(Factor::Parenthesis(Box::new(alloc, parenthesis)?))
+    }
+
     /// Begins again.
-    pub fn restart(&mut self) -> Result<(), AllocError>
+    pub fn restart(&mut self, alloc: Global) -> Result<(), AllocError>
         ensures whole { OnOk result ((max : ℕ) → factor_whole max self.new ≡ factor_whole max self.old) }
         ensures left { OnOk result ((max : ℕ) → factor_left max self.new ≡ factor_whole max self.old) }
     {
@@ -47,6 +85,7 @@ impl<'a> Factor<'a> {
                 Ok(())
             }
             Factor::Power(power) => power.restart(),
+            Factor::Parenthesis(inner) => inner.restart(alloc),
         }
     }
 
@@ -56,16 +95,18 @@ impl<'a> Factor<'a> {
     {
         match self {
             Factor::Once(walk) => walk.is_spent(),
-            Factor::Power(_) => false,
+            Factor::Power(_) | Factor::Parenthesis(_) => false,
         }
     }
 
-    /// A front of a product times the next term.
+    /// A front of a product times the next term. `deeper` counts down with each parenthesis.
+    #[cycle(taking)]
     pub fn next_times(
         &mut self,
         alloc: Global,
         limit: u64,
         left: &Option<Monomial>,
+        deeper: u64,
     ) -> Result<Option<Monomial>, ExpandError>
         ensures next { Gives result (times_by left.now (factor_left limit self.old)) (times_by left.now (factor_left limit self.new)) }
         ensures whole { OnOk result (factor_whole limit self.new ≡ factor_whole limit self.old) }
@@ -73,6 +114,7 @@ impl<'a> Factor<'a> {
         match self {
             Factor::Once(walk) => walk.next_times(alloc, limit, left),
             Factor::Power(power) => power.next_times(alloc, limit, left),
+            Factor::Parenthesis(inner) => inner.next_times(alloc, left, deeper),
         }
     }
 }

@@ -1,16 +1,17 @@
 //! The list of a right side: its terms in the order in which it is written out, made one by one as they are asked for.
 //!
-//! A sum is read product by product (`stream`, `reader`, `frame`). The factors of a product are lists that are there as
-//! a whole, or powers of such lists (`whole`, `walk`, `power`, `factor`), and the product is paired from the left, deepest
-//! first, with one level for each factor (`product`), so that none of its terms is kept. A sum in parentheses is made as
-//! a whole when it is read.
+//! A sum is read product by product (`stream`, `reader`). A product is paired from the left, deepest first, with one level
+//! for each factor (`product`), so that none of its terms is kept. A factor (`factor`) is a list that is there as a whole,
+//! or a power of one (`whole`, `walk`, `power`), or a sum in parentheses, which is made anew, in the same way, for each
+//! term of the front before it (`parenthesis`). So recursion goes as deep as parentheses stand within one another.
 #![tactic(auto)]
 
 mod error;
 mod expansion;
 mod factor;
-mod frame;
+mod literal;
 mod number;
+mod parenthesis;
 mod power;
 mod product;
 mod progress;

@@ -1,8 +1,10 @@
-ghost use Rattle.std.specs.Prelude.{◌≡◌, ◌≤◌, pos, negsuc, IfOk, if◌then◌else◌};
+ghost use Rattle.std.specs.Prelude.{◌≡◌, ◌≤◌, pos, negsuc, IfOk, IfSome, if◌then◌else◌};
 ghost use Rattle.std.specs.Option.{ok_or};
-ghost use Rattle.form_frac.specs.Fraction.{make, largest};
+ghost use Rattle.form_frac.specs.Fraction.{make, largest, IsLowest};
 ghost use Rattle.form_frac.specs.declared.frac_error.FracError.TheVariants.{Overflow};
+ghost use Rattle.form_normal.specs.Product.{number_alone as number_alone_of};
 ghost use Rattle.form_expand.specs.Kept.{listing};
+ghost use Rattle.form_expand.specs.Listing.{single};
 ghost use Rattle.form_expand.specs.Numbers.{raised as raised_of, of_fraction as of_fraction_of, number_list as number_list_of, symbol_list as symbol_list_of};
 
 use crate::whole::Whole;
@@ -15,7 +17,7 @@ use std::alloc::{AllocError, Global};
 const LARGEST: u128 = 170141183460469231731687303715884105727;
 
 /// The largest size of an exponent.
-const LARGEST_EXPONENT: u32 = 1_000_000_000;
+pub const LARGEST_EXPONENT: u32 = 1_000_000_000;
 
 /// The list of a whole number to a power.
 pub fn number_list<'a>(alloc: Global, value: u128, power: i32) -> Whole<'a>
@@ -30,6 +32,23 @@ pub fn number_list<'a>(alloc: Global, value: u128, power: i32) -> Whole<'a>
     }
     let base = factor_of(value, power < 0);
     of_fraction(alloc, base, size)
+}
+
+/// The fraction that a whole number to a power is; none where that is refused or no term.
+pub fn number_alone(value: u128, power: i32) -> Option<Frac>
+    ensures { IfSome result (λ number. (number_list_of value power ≡ single (number_alone_of number)) × IsLowest number) }
+{
+    let size = power.unsigned_abs();
+    if size == 0 || value > LARGEST {
+        return None;
+    }
+    let base = factor_of(value, power < 0).ok()?;
+    if base.is_zero() {
+        return None;
+    }
+    let number = raised(base, size).ok()?;
+    let _ = number.numerator();
+    Some(number)
 }
 
 /// A factor of a number's power: the number, or its inverse.

@@ -1,19 +1,23 @@
-ghost use Rattle.std.specs.Prelude.{◌≡◌, ◌++◌, ℕ, [], ◌∷◌, Some, None, IfOk, OnOk, map, option_to_list};
+ghost use Rattle.std.specs.Prelude.{◌≡◌, ◌++◌, ℕ, suc, [], ◌∷◌, Some, None, IfOk, OnOk, map, option_to_list};
 ghost use Rattle.form_expand.specs.Factors.{factor_left, factor_whole};
-ghost use Rattle.form_expand.specs.Left.{row};
-ghost use Rattle.form_expand.specs.Listing.{nothing};
+ghost use Rattle.form_expand.specs.Left.{left_of_levels, row};
+ghost use Rattle.form_expand.specs.Listing.{nothing, powers};
 ghost use Rattle.form_expand.specs.Next.{Gives, Goes, Takes};
 ghost use Rattle.form_expand.specs.Products.{level_of, level_at_first, queued_of, product_left};
+ghost use Rattle.form_expand.specs.Reading.{list_of_pieces};
 
 use crate::ExpandError;
 use crate::factor::Factor;
 use crate::progress::Progress;
+use crate::stored::Stored;
 use form_base::Cause;
 use form_term::Monomial;
+use form_tree::Piece;
 use std::alloc::{AllocError, Global};
 use std::mem;
 
 /// A factor of a product that terms are being taken from.
+#[cycle(list)]
 #[derive(Drop)]
 pub struct Level<'a> {
     pub factor: Factor<'a>,
@@ -25,10 +29,14 @@ pub struct Level<'a> {
 
 impl<'a> Level<'a> {
     /// A factor from its first term on.
-    fn begin(mut queued: Queued<'a>, left: Option<Monomial>) -> Result<Level<'a>, AllocError>
+    fn begin(
+        alloc: Global,
+        mut queued: Queued<'a>,
+        left: Option<Monomial>,
+    ) -> Result<Level<'a>, AllocError>
         ensures { IfOk result (λ level. (max : ℕ) → level_of max level ≡ level_at_first max queued.entry left) }
     {
-        queued.factor.restart()?;
+        queued.factor.restart(alloc)?;
         Ok(Level {
             factor: queued.factor,
             left,
@@ -37,10 +45,16 @@ impl<'a> Level<'a> {
     }
 
     /// The product with the next term.
-    fn take(&mut self, alloc: Global, limit: u64) -> Result<Option<Monomial>, ExpandError>
+    #[cycle(taking)]
+    fn take(
+        &mut self,
+        alloc: Global,
+        limit: u64,
+        deeper: u64,
+    ) -> Result<Option<Monomial>, ExpandError>
         ensures { Takes limit result (level_of limit self.old) (level_of limit self.new) }
     {
-        let Some(term) = self.factor.next_times(alloc, limit, &self.left)? else {
+        let Some(term) = self.factor.next_times(alloc, limit, &self.left, deeper)? else {
             return Ok(None);
         };
         if self.count >= limit {
@@ -62,6 +76,7 @@ impl<'a> Level<'a> {
 }
 
 /// A factor of a product that no terms are being taken from.
+#[cycle(list)]
 #[derive(Drop)]
 pub struct Queued<'a> {
     pub factor: Factor<'a>,
@@ -70,6 +85,8 @@ pub struct Queued<'a> {
 }
 
 /// A product of lists, whose terms are taken one by one: its factors are paired from the left, deepest first.
+#[cycle(list)]
+#[derive(Drop)]
 pub struct Product<'a> {
     /// The last factor that terms are being taken from.
     pub top: Option<Level<'a>>,
@@ -77,17 +94,6 @@ pub struct Product<'a> {
     pub below: Vec<Level<'a>>,
     /// The factors behind it, the next one last.
     pub waiting: Vec<Queued<'a>>,
-}
-
-/// Its drop is a function of its own, so that no caller's proof goes through all kinds of factors.
-impl Drop for Product<'_> {
-    fn drop(self) {
-        let Product {
-            top: _,
-            below: _,
-            waiting: _,
-        } = self;
-    }
 }
 
 impl<'a> Product<'a> {
@@ -114,7 +120,7 @@ impl<'a> Product<'a> {
             }
         }
         let top = match factors.pop() {
-            Some(factor) => Some(Level::begin(Queued { factor, count: 0 }, None)?),
+            Some(factor) => Some(Level::begin(alloc, Queued { factor, count: 0 }, None)?),
             None => None,
         };
         Ok(Product {
@@ -124,12 +130,45 @@ impl<'a> Product<'a> {
         })
     }
 
+    /// The power of a sum in parentheses, from its first term on.
+    pub fn power(
+        alloc: Global,
+        limit: u64,
+        stored: &'a [Stored],
+        pieces: &'a [Piece],
+        later: u32,
+    ) -> Result<Product<'a>, AllocError>
+        ensures { IfOk result (λ product. product_left limit product ≡ powers limit (list_of_pieces limit stored.now pieces.now) (suc later)) }
+    {
+        let mut waiting = Vec::new(alloc);
+        for _made in 0..later {
+            let factor = Factor::alone(alloc, limit, stored, pieces)?;
+            waiting.push(Queued { factor, count: 0 })?;
+        }
+        let factor = Factor::alone(alloc, limit, stored, pieces)?;
+        Ok(Product {
+            top: Some(Level {
+                factor,
+                left: None,
+                count: 0,
+            }),
+            below: Vec::new(alloc),
+            waiting,
+        })
+    }
+
     /// The next term.
-    pub fn next(&mut self, alloc: Global, limit: u64) -> Result<Option<Monomial>, ExpandError>
+    #[cycle(taking)]
+    pub fn next(
+        &mut self,
+        alloc: Global,
+        limit: u64,
+        deeper: u64,
+    ) -> Result<Option<Monomial>, ExpandError>
         ensures { Gives result (product_left limit self.old) (product_left limit self.new) }
     {
         for _ in 0..u64::MAX {
-            match self.step(alloc, limit)? {
+            match self.step(alloc, limit, deeper)? {
                 Progress::Moves => {}
                 Progress::Gives(term) => return Ok(Some(term)),
                 Progress::Done => return Ok(None),
@@ -138,7 +177,8 @@ impl<'a> Product<'a> {
         Err(ExpandError::Memory)
     }
 
-    fn step(&mut self, alloc: Global, limit: u64) -> Result<Progress, ExpandError>
+    #[cycle(taking)]
+    fn step(&mut self, alloc: Global, limit: u64, deeper: u64) -> Result<Progress, ExpandError>
         ensures { Goes result (product_left limit self.old) (product_left limit self.new) }
     {
         let Some(top) = &mut self.top else {
@@ -148,14 +188,14 @@ impl<'a> Product<'a> {
             self.top = Some(level);
             return Ok(Progress::Moves);
         };
-        let Some(term) = top.take(alloc, limit)? else {
+        let Some(term) = top.take(alloc, limit, deeper)? else {
             self.close()?;
             return Ok(Progress::Moves);
         };
         let Some(queued) = self.waiting.pop() else {
             return Ok(Progress::Gives(term));
         };
-        self.open(queued, term)?;
+        self.open(alloc, queued, term)?;
         Ok(Progress::Moves)
     }
 
@@ -175,17 +215,23 @@ impl<'a> Product<'a> {
         Ok(())
     }
 
-    /// Takes terms from the next factor, which are paired with this term.
-    fn open(&mut self, queued: Queued<'a>, left: Monomial) -> Result<(), AllocError>
-        ensures below { OnOk result (self.new.below.items ≡ self.old.below.items ++ option_to_list self.old.top) }
+    /// Takes terms from the next factor, which are paired with this term. The one before it goes where it has no further
+    /// term, and no terms are being taken from a factor before it either.
+    fn open(&mut self, alloc: Global, queued: Queued<'a>, left: Monomial) -> Result<(), AllocError>
+        ensures below { OnOk result ((max : ℕ) → left_of_levels max nothing (map (level_of max) self.new.below.items)
+            ≡ left_of_levels max nothing (map (level_of max) (self.old.below.items ++ option_to_list self.old.top))) }
         ensures top { OnOk result ((max : ℕ) →
             map (level_of max) (option_to_list self.new.top) ≡ level_at_first max queued.entry (Some left) ∷ []) }
         ensures waiting { self.new.waiting.items ≡ self.old.waiting.items }
     {
-        let level = Level::begin(queued, Some(left))?;
-        if let Some(top) = mem::replace(&mut self.top, Some(level)) {
-            self.below.push(top)?;
+        let level = Level::begin(alloc, queued, Some(left))?;
+        let Some(top) = mem::replace(&mut self.top, Some(level)) else {
+            return Ok(());
+        };
+        if self.below.is_empty() && top.factor.is_spent() {
+            return Ok(());
         }
+        self.below.push(top)?;
         Ok(())
     }
 }

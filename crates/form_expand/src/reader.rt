@@ -1,131 +1,64 @@
-ghost use Rattle.std.specs.Prelude.{◌≡◌, IfOk, OnOk};
-ghost use Rattle.form_expand.specs.Frames.{part_of};
-ghost use Rattle.form_expand.specs.Kept.{listing};
-ghost use Rattle.form_expand.specs.Reading.{beginning, begins_product, closing, fed, opening, outermost, with_piece};
-ghost use Rattle.form_expand.specs.Readers.{ends_before_piece, is_none_around, reading_of, IsRead};
+ghost use Rattle.std.specs.Prelude.{◌≡◌, ◌≤◌, ◌<◌, ◌+◌, ◌^◌, IfOk, length, map};
+ghost use Rattle.form_expand.specs.Closings.{closing_at, deep_behind, power_at_end};
+ghost use Rattle.form_expand.specs.Factors.{factor_whole};
+ghost use Rattle.form_expand.specs.Reading.{begins_product};
+ghost use Rattle.form_expand.specs.Readers.{IsRead, IsReadFactor, IsReadOn, IsReadParenthesis, is_minus_piece};
 
 use crate::factor::Factor;
-use crate::frame::Frame;
 use crate::number::{number_list, symbol_list};
 use crate::stored::{Stored, terms_of};
 use crate::whole::{Kept, Whole};
 use form_tree::{Link, Piece};
 use std::alloc::{AllocError, Global};
-use std::mem;
 
-/// What is being read of a right side: a sum, and the sums around it.
+/// A product of a sum, with its sign.
 #[derive(Drop)]
-pub struct Reader<'a> {
-    pub top: Frame<'a>,
-    /// The sums around it, the innermost last.
-    pub outer: Vec<Frame<'a>>,
+pub struct Summand<'a> {
+    pub is_minus: bool,
+    pub factors: Vec<Factor<'a>>,
 }
 
-impl<'a> Reader<'a> {
-    fn new(alloc: Global, limit: u64) -> Reader<'a>
-        ensures { reading_of result ≡ beginning limit }
-    {
-        Reader {
-            top: Frame::new(alloc, limit),
-            outer: Vec::new(alloc),
-        }
-    }
+/// Reads the product that these pieces begin with. Answers it, and the pieces behind it.
+pub fn read_product<'a>(
+    alloc: Global,
+    pieces: &'a [Piece],
+    stored: &'a [Stored],
+    limit: u64,
+) -> Result<(Summand<'a>, &'a [Piece]), AllocError>
+    ensures { IfOk result (λ read. IsRead limit stored.now pieces.now read.0.is_minus
+        (map (factor_whole limit) read.0.factors.items) read.1.now) }
+{
+    let mut factors = Vec::new(alloc);
+    let Some((first, more)) = pieces.split_first() else {
+        return Ok((
+            Summand {
+                is_minus: false,
+                factors,
+            },
+            pieces,
+        ));
+    };
+    let is_minus = is_subtracted(first);
+    let rest = read_factor(alloc, first, more, stored, limit, &mut factors)?;
+    let rest = read_on(alloc, rest, stored, limit, &mut factors)?;
+    Ok((Summand { is_minus, factors }, rest))
+}
 
-    /// Whether no parenthesis is open.
-    fn is_outside(&self) -> bool
-        ensures { result ≡ is_none_around (reading_of self.now).outer }
-    {
-        self.outer.is_empty()
-    }
-
-    /// Whether a further product of the outermost sum begins with this piece, where so many pieces were read before.
-    fn ends_before(&self, read: usize, piece: &Piece) -> bool
-        ensures { result ≡ ends_before_piece read (reading_of self.now).outer piece.now }
-    {
-        read > 0 && self.is_outside() && begins(piece)
-    }
-
-    fn feed(&mut self, alloc: Global, piece: &Piece, stored: &'a [Stored]) -> Result<(), AllocError>
-        ensures { OnOk result (reading_of self.new ≡ fed stored.now (reading_of self.old) piece.now) }
-    {
-        match piece {
-            Piece::Number { link, value, power } => {
-                self.push(alloc, *link, number_list(alloc, *value, *power), 1)
-            }
-            Piece::Symbol {
-                link,
-                symbol,
-                power,
-            } => {
-                let whole = symbol_list(alloc, *symbol, *power)?;
-                self.push(alloc, *link, whole, 1)
-            }
-            Piece::Stored {
-                link,
-                expression,
-                power,
-            } => {
-                let whole = Whole {
-                    kept: Kept::Stored(terms_of(stored, *expression)),
-                    end: None,
-                };
-                self.push(alloc, *link, whole, *power)
-            }
-            Piece::Open { link } => self.open(alloc, *link),
-            Piece::Close { power } => self.close(alloc, *power),
-        }
-    }
-
-    /// A factor that is one piece.
-    fn push(
-        &mut self,
-        alloc: Global,
-        link: Link,
-        whole: Whole<'a>,
-        power: u32,
-    ) -> Result<(), AllocError>
-        ensures { OnOk result (reading_of self.new ≡ with_piece link (listing whole.entry) power (reading_of self.old)) }
-    {
-        self.top.link(alloc, link)?;
-        self.top.push(Factor::new(alloc, whole, power)?)
-    }
-
-    /// A parenthesis begins.
-    fn open(&mut self, alloc: Global, link: Link) -> Result<(), AllocError>
-        ensures { OnOk result (reading_of self.new ≡ opening link (reading_of self.old)) }
-    {
-        self.top.link(alloc, link)?;
-        let inner = Frame::new(alloc, self.top.limit);
-        let outer = mem::replace(&mut self.top, inner);
-        self.outer.push(outer)?;
-        Ok(())
-    }
-
-    /// A parenthesis ends.
-    fn close(&mut self, alloc: Global, power: u32) -> Result<(), AllocError>
-        ensures { OnOk result (reading_of self.new ≡ closing power (reading_of self.old).top (reading_of self.old).outer) }
-    {
-        let Some(outer) = self.outer.pop() else {
-            return Ok(());
-        };
-        let inner = mem::replace(&mut self.top, outer);
-        let whole = inner.into_list(alloc)?;
-        self.top.push(Factor::new(alloc, whole, power)?)
-    }
-
-    /// The outermost sum.
-    fn into_outermost(self) -> Frame<'a>
-        ensures { part_of result ≡ outermost (reading_of self.entry).top (reading_of self.entry).outer }
-    {
-        match self.outer.into_iter().next() {
-            Some(outermost) => outermost,
-            None => self.top,
-        }
+/// Whether the product that begins with this piece is subtracted.
+fn is_subtracted(piece: &Piece) -> bool
+    ensures { result ≡ is_minus_piece piece.now }
+{
+    match piece {
+        Piece::Number { link, .. }
+        | Piece::Symbol { link, .. }
+        | Piece::Stored { link, .. }
+        | Piece::Open { link } => *link == Link::Minus,
+        Piece::Close { .. } => false,
     }
 }
 
 /// Whether a product begins with this piece.
-fn begins(piece: &Piece) -> bool
+pub fn begins(piece: &Piece) -> bool
     ensures { result ≡ begins_product piece.now }
 {
     match piece {
@@ -137,21 +70,122 @@ fn begins(piece: &Piece) -> bool
     }
 }
 
-/// Reads the product that these pieces begin with. Answers it, and how many pieces it has.
-pub fn read_product<'a>(
+/// Reads the further factors of a product, and answers the pieces behind it.
+fn read_on<'a>(
     alloc: Global,
-    pieces: &[Piece],
+    pieces: &'a [Piece],
     stored: &'a [Stored],
     limit: u64,
-) -> Result<(Frame<'a>, usize), AllocError>
-    ensures { IfOk result (λ read. IsRead limit stored.now pieces.now (part_of read.0) read.1) }
+    factors: &mut Vec<Factor<'a>>,
+) -> Result<&'a [Piece], AllocError>
+    ensures { IfOk result (λ rest. IsReadOn limit stored.now pieces.now
+        (map (factor_whole limit) factors.old.items) (map (factor_whole limit) factors.new.items) rest.now) }
 {
-    let mut reader = Reader::new(alloc, limit);
-    for (read, piece) in pieces.iter().enumerate() {
-        if reader.ends_before(read, piece) {
-            return Ok((reader.into_outermost(), read));
+    let mut rest = pieces;
+    while let Some((piece, more)) = rest.split_first() {
+        if begins(piece) {
+            return Ok(rest);
         }
-        reader.feed(alloc, piece, stored)?;
+        rest = read_factor(alloc, piece, more, stored, limit, factors)?;
     }
-    Ok((reader.into_outermost(), pieces.len()))
+    Ok(rest)
+}
+
+/// Reads the factor that begins with this piece, and answers the pieces behind it. There is none where the piece ends a
+/// parenthesis that isn't open, or begins one that isn't ended.
+fn read_factor<'a>(
+    alloc: Global,
+    piece: &Piece,
+    more: &'a [Piece],
+    stored: &'a [Stored],
+    limit: u64,
+    factors: &mut Vec<Factor<'a>>,
+) -> Result<&'a [Piece], AllocError>
+    ensures read { IfOk result (λ rest. IsReadFactor limit stored.now piece.now more.now
+        (map (factor_whole limit) factors.old.items) (map (factor_whole limit) factors.new.items) rest.now) }
+    ensures shorter { IfOk result (λ rest. length rest.now ≤ length more.now) }
+{
+    match piece {
+        Piece::Number { value, power, .. } => {
+            let whole = number_list(alloc, *value, *power);
+            factors.push(Factor::new(alloc, whole, 1)?)?;
+            Ok(more)
+        }
+        Piece::Symbol { symbol, power, .. } => {
+            let whole = symbol_list(alloc, *symbol, *power)?;
+            factors.push(Factor::new(alloc, whole, 1)?)?;
+            Ok(more)
+        }
+        Piece::Stored {
+            expression,
+            power,
+            ..
+        } => {
+            let whole = Whole {
+                kept: Kept::Stored(terms_of(stored, *expression)),
+                end: None,
+            };
+            factors.push(Factor::new(alloc, whole, *power)?)?;
+            Ok(more)
+        }
+        Piece::Open { .. } => read_parenthesis(alloc, more, stored, limit, factors),
+        Piece::Close { .. } => Ok(more),
+    }
+}
+
+/// Reads a factor in parentheses behind its first piece, and answers the pieces behind it.
+fn read_parenthesis<'a>(
+    alloc: Global,
+    pieces: &'a [Piece],
+    stored: &'a [Stored],
+    limit: u64,
+    factors: &mut Vec<Factor<'a>>,
+) -> Result<&'a [Piece], AllocError>
+    ensures read { IfOk result (λ rest. IsReadParenthesis limit stored.now pieces.now
+        (map (factor_whole limit) factors.old.items) (map (factor_whole limit) factors.new.items) rest.now) }
+    ensures shorter { IfOk result (λ rest. length rest.now ≤ length pieces.now) }
+{
+    let Some((len, power)) = closing(pieces) else {
+        return Ok(&[]);
+    };
+    let (within, behind) = pieces.split_at(len);
+    factors.push(Factor::parenthesis(alloc, limit, stored, within, power)?)?;
+    let (_, rest) = behind.split_at(1);
+    Ok(rest)
+}
+
+/// How many pieces there are before the one that ends the parenthesis that is open before them, and its power.
+fn closing(pieces: &[Piece]) -> Option<(usize, u32)>
+    ensures { result ≡ closing_at 0 0 pieces.now }
+{
+    let mut depth = 0;
+    for (place, piece) in pieces.iter().enumerate() {
+        if let Some(power) = ended_by(depth, piece) {
+            return Some((place, power));
+        }
+        depth = depth_behind(depth, piece);
+    }
+    None
+}
+
+/// The power where this piece ends the parenthesis within which so many are open.
+fn ended_by(depth: usize, piece: &Piece) -> Option<u32>
+    ensures { result ≡ power_at_end depth piece.now }
+{
+    match piece {
+        Piece::Close { power } if depth == 0 => Some(*power),
+        _ => None,
+    }
+}
+
+/// How many are open behind this piece, where it isn't the end.
+fn depth_behind(depth: usize, piece: &Piece) -> usize
+    requires { depth + 1 < 2 ^ 64 }
+    ensures { result ≡ deep_behind depth piece.now }
+{
+    match piece {
+        Piece::Open { .. } => depth + 1,
+        Piece::Close { .. } => depth.saturating_sub(1),
+        Piece::Number { .. } | Piece::Symbol { .. } | Piece::Stored { .. } => depth,
+    }
 }

@@ -1,13 +1,14 @@
-ghost use Rattle.std.specs.Prelude.{◌≡◌, IfOk, OnOk};
+ghost use Rattle.std.specs.Prelude.{◌≡◌, ◌<◌, length, None, Ok, IfOk, OnOk, IfSome};
 ghost use Rattle.form_tree.specs.Tree.{Sum, pieces_of_sum};
 ghost use Rattle.form_expand.specs.Expanding.{list_of_sum};
-ghost use Rattle.form_expand.specs.Listing.{nothing};
+ghost use Rattle.form_expand.specs.Listing.{nothing, limited, with_sign};
 ghost use Rattle.form_expand.specs.Next.{Gives};
 ghost use Rattle.form_expand.specs.Products.{product_left};
+ghost use Rattle.form_expand.specs.Reading.{list_of_pieces};
 ghost use Rattle.form_expand.specs.Streams.{stream_left, stream_before};
 
 use crate::ExpandError;
-use crate::frame::signed;
+use crate::literal::read_literal;
 use crate::product::Product;
 use crate::reader::read_product;
 use crate::stored::Stored;
@@ -17,6 +18,7 @@ use form_tree::Piece;
 use std::alloc::{AllocError, Global};
 
 /// A sum whose products are read and gone through one after the other.
+#[cycle(list)]
 #[derive(Drop)]
 pub struct Stream<'a> {
     pub limit: u64,
@@ -32,7 +34,8 @@ pub struct Stream<'a> {
 
 impl<'a> Stream<'a> {
     pub fn new(alloc: Global, pieces: &'a [Piece], limit: u64, stored: &'a [Stored]) -> Stream<'a>
-        ensures { (s : Sum) → pieces.now ≡ pieces_of_sum s → stream_left result ≡ list_of_sum limit stored.now s }
+        ensures tree { (s : Sum) → pieces.now ≡ pieces_of_sum s → stream_left result ≡ list_of_sum limit stored.now s }
+        ensures pieces { stream_left result ≡ limited limit (list_of_pieces limit stored.now pieces.now) }
     {
         Stream {
             limit,
@@ -44,16 +47,34 @@ impl<'a> Stream<'a> {
         }
     }
 
-    /// The next term.
-    pub fn next(&mut self, alloc: Global) -> Result<Option<Monomial>, ExpandError>
+    /// A sum of this product alone.
+    pub fn of_product(product: Product<'a>, limit: u64, stored: &'a [Stored]) -> Stream<'a>
+        ensures { stream_left result ≡ limited limit (product_left limit product.entry) }
+    {
+        Stream {
+            limit,
+            stored,
+            given: 0,
+            is_minus: false,
+            product,
+            rest: &[],
+        }
+    }
+
+    /// The next term. `deeper` counts down with each parenthesis.
+    #[cycle(taking)]
+    pub fn next(&mut self, alloc: Global, deeper: u64) -> Result<Option<Monomial>, ExpandError>
         ensures { Gives result (stream_left self.old) (stream_left self.new) }
     {
         for _ in 0..u64::MAX {
-            if let Some(term) = self.product.next(alloc, self.limit)? {
+            if let Some(term) = self.product.next(alloc, self.limit, deeper)? {
                 return self.give(term);
             }
             if self.rest.is_empty() {
                 return Ok(None);
+            }
+            if let Some(term) = self.read_term(alloc)? {
+                return self.give(term);
             }
             self.read(alloc)?;
         }
@@ -71,16 +92,38 @@ impl<'a> Stream<'a> {
         Ok(Some(signed(self.is_minus, term)))
     }
 
+    /// Reads the next product, where the one at hand is done and the next is one of numbers and symbols: its term.
+    fn read_term(&mut self, alloc: Global) -> Result<Option<Monomial>, AllocError>
+        requires done { product_left self.old.limit self.old.product ≡ nothing }
+        requires some { 0 < length self.old.rest.now }
+        ensures found { IfOk result (λ found. IfSome found (λ term. stream_before term self.new ≡ stream_left self.old)) }
+        ensures none { result ≡ Ok None → self.new ≡ self.old }
+    {
+        let Some((literal, read)) = read_literal(alloc, self.rest)? else {
+            return Ok(None);
+        };
+        self.is_minus = literal.is_minus;
+        let (_, rest) = self.rest.split_at(read);
+        self.rest = rest;
+        Ok(Some(literal.term))
+    }
+
     /// Reads the next product, where the one at hand is done.
     fn read(&mut self, alloc: Global) -> Result<(), AllocError>
         requires { product_left self.old.limit self.old.product ≡ nothing }
         ensures { OnOk result (stream_left self.new ≡ stream_left self.old) }
     {
-        let (frame, read) = read_product(alloc, self.rest, self.stored, self.limit)?;
-        self.product = Product::new(alloc, frame.factors)?;
-        self.is_minus = frame.is_minus;
-        let (_, rest) = self.rest.split_at(read);
+        let (summand, rest) = read_product(alloc, self.rest, self.stored, self.limit)?;
+        self.is_minus = summand.is_minus;
+        self.product = Product::new(alloc, summand.factors)?;
         self.rest = rest;
         Ok(())
     }
+}
+
+/// A term behind a sign.
+fn signed(is_minus: bool, term: Monomial) -> Monomial
+    ensures { result ≡ with_sign is_minus term }
+{
+    if is_minus { term.negated() } else { term }
 }

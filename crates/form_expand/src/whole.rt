@@ -12,7 +12,6 @@ use form_term::Monomial;
 pub enum Kept<'a> {
     None,
     One(Monomial),
-    Made(Vec<Monomial>),
     Stored(&'a [Monomial]),
 }
 
@@ -23,7 +22,6 @@ impl Kept<'_> {
         match self {
             Kept::None => &[],
             Kept::One(term) => std::slice::from_ref(term),
-            Kept::Made(terms) => terms.as_slice(),
             Kept::Stored(terms) => terms,
         }
     }

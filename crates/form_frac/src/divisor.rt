@@ -1,4 +1,4 @@
-ghost use Rattle.std.specs.Prelude.{◌≡◌, ℕ};
+ghost use Rattle.std.specs.Prelude.{◌≡◌, ◌≤◌, ◌/◌, ◌%◌, ℕ};
 ghost use Rattle.std.specs.Int.{◌∣◌, IsGcd};
 ghost use Rattle.form_frac.specs.Fraction.{gcd as gcd_of};
 
@@ -19,7 +19,7 @@ pub fn gcd(a: u128, b: u128) -> u128
     if lesser == 0 {
         greater
     } else {
-        gcd_of_small(lesser as u64, (greater % lesser) as u64) as u128
+        gcd_of_small(lesser as u64, rest(greater, lesser) as u64) as u128
     }
 }
 
@@ -35,4 +35,31 @@ fn gcd_of_small(a: u64, b: u64) -> u64
         lesser = rest;
     }
     greater
+}
+
+/// The quotient without a rest, by 64-bit division where both are small; one by 1, which is most often asked for, takes
+/// none.
+pub fn quotient(a: u128, b: u128) -> u128
+    requires { 1 ≤ b }
+    ensures { result ≡ a / b }
+{
+    if b == 1 {
+        a
+    } else if a <= u64::MAX as u128 && b <= u64::MAX as u128 {
+        (a as u64 / b as u64) as u128
+    } else {
+        a / b
+    }
+}
+
+/// The rest, in the same way.
+fn rest(a: u128, b: u128) -> u128
+    requires { 1 ≤ b }
+    ensures { result ≡ a % b }
+{
+    if a <= u64::MAX as u128 && b <= u64::MAX as u128 {
+        (a as u64 % b as u64) as u128
+    } else {
+        a % b
+    }
 }

@@ -4,6 +4,7 @@ ghost use Rattle.form_frac.specs.Fraction as fraction;
 ghost use Rattle.std.specs.Ordering.{nat_cmp};
 ghost use Rattle.form_frac.specs.Fraction.{IsLowest, largest, in_range, signed as signed_of};
 
+use crate::divisor::quotient;
 use crate::range::{self, LARGEST, product_size, scaled, signed};
 use crate::{FracError, gcd};
 use std::cmp::Ordering;
@@ -70,7 +71,11 @@ impl Frac {
         ensures { result ≡ in_range (fraction.reduced (signed_of is_negative size) denominator) }
     {
         let divisor = gcd(size, denominator);
-        Frac::from_parts(is_negative, size / divisor, denominator / divisor)
+        Frac::from_parts(
+            is_negative,
+            quotient(size, divisor),
+            quotient(denominator, divisor),
+        )
     }
 
     /// The fraction of these parts, which are in lowest terms.
@@ -177,8 +182,8 @@ impl Frac {
         let left_denominator = self.denominator();
         let right_denominator = other.denominator();
         let divisor = gcd(left_denominator, right_denominator);
-        let left_factor = right_denominator / divisor;
-        let right_factor = left_denominator / divisor;
+        let left_factor = quotient(right_denominator, divisor);
+        let right_factor = quotient(left_denominator, divisor);
         let common = product_size(left_denominator, left_factor)?;
         let left = scaled(self.numerator(), left_factor)?;
         let right = scaled(other.numerator(), right_factor)?;
@@ -197,8 +202,11 @@ impl Frac {
         let right_denominator = other.denominator();
         let left = gcd(left_size, right_denominator);
         let right = gcd(right_size, left_denominator);
-        let size = product_size(left_size / left, right_size / right)?;
-        let denominator = product_size(left_denominator / right, right_denominator / left)?;
+        let size = product_size(quotient(left_size, left), quotient(right_size, right))?;
+        let denominator = product_size(
+            quotient(left_denominator, right),
+            quotient(right_denominator, left),
+        )?;
         let is_negative = self.is_negative() != other.is_negative();
         Frac::from_parts(is_negative, size, denominator)
     }

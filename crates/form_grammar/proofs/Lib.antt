@@ -1,4 +1,5 @@
 pub mod Complete
+pub mod Parts
 pub mod Places
 pub mod Powers
 pub mod Raised

@@ -1,4 +1,5 @@
 pub mod Effect
 pub mod Grammar
+pub mod Parts
 pub mod Reading
 pub mod Terminal

@@ -1,4 +1,4 @@
-ghost use Rattle.std.specs.Prelude.{◌≡◌, map, IfErr, IfOk};
+ghost use Rattle.std.specs.Prelude.{◌≡◌, map, true, false, Some, None, IfErr, IfOk};
 ghost use Rattle.std.specs.Vec.Iter.{into_iter_items};
 ghost use Rattle.form_grammar.specs.declared.effect.Effect.TheVariants.{Raises};
 ghost use Rattle.form_grammar.specs.Grammar.{IsExpr};
@@ -18,7 +18,7 @@ const MOST_OPEN: u32 = 64;
 
 /// A right side while it is read.
 #[derive(Drop)]
-struct Reader {
+pub struct Reader {
     pieces: Vec<Piece>,
     /// How many parentheses are open.
     opened: u32,
@@ -26,27 +26,27 @@ struct Reader {
     expected: Expected,
 }
 
-/// The piece with this power, where it may have it: a negative power stands on no parenthesis.
-fn powered(power: Power, piece: Piece) -> Option<Piece>
-    ensures { result ≡ powered_of power piece }
+/// Gives a piece this power, where it may have it: a negative power stands on no parenthesis. Answers whether it may.
+fn raise_piece(piece: &mut Piece, power: Power) -> bool
+    ensures raised { result ≡ true → powered_of power piece.old ≡ Some piece.new }
+    ensures not_raised { result ≡ false → powered_of power piece.old ≡ None }
 {
     match piece {
-        Piece::Number(link, number, _) => Some(Piece::Number(link, number, Some(power))),
-        Piece::Name(link, name, _) => Some(Piece::Name(link, name, Some(power))),
-        Piece::Open(_) => None,
-        Piece::Close(_) => {
-            let is_negative = matches!(power.sign, Some(Sign::Minus)) && power.number.value != 0;
-            if is_negative {
-                None
-            } else {
-                Some(Piece::Close(Some(power)))
+        Piece::Number(_, _, written) => *written = Some(power),
+        Piece::Name(_, _, written) => *written = Some(power),
+        Piece::Open(_) => return false,
+        Piece::Close(written) => {
+            if matches!(power.sign, Some(Sign::Minus)) && power.number.value != 0 {
+                return false;
             }
+            *written = Some(power);
         }
     }
+    true
 }
 
 impl Reader {
-    fn new(alloc: Global) -> Reader
+    pub fn new(alloc: Global) -> Reader
         ensures { reading_of result ≡ begun }
     {
         Reader {
@@ -57,17 +57,13 @@ impl Reader {
     }
 
     /// Gives the last factor this power.
-    #[tactic(auto, using(crate::proofs::Raised::raised_last, crate::proofs::Raised::raised_empty))]
     fn raise(&mut self, power: Power) -> Result<(), ReadError>
         ensures { Gives (λ _. reading_of self.new) result (applied (reading_of self.old) (Raises power)) }
     {
-        let Some(last) = self.pieces.pop() else {
+        let count = self.pieces.len();
+        if count == 0 || !raise_piece(&mut self.pieces[count - 1], power) {
             return Err(ReadError::BadSyntax);
-        };
-        let Some(raised) = powered(power, last) else {
-            return Err(ReadError::BadSyntax);
-        };
-        self.pieces.push(raised)?;
+        }
         self.expected = if power.is_parenthesized {
             Expected::Closing
         } else {
@@ -110,14 +106,14 @@ impl Reader {
     }
 
     /// Goes one terminal further.
-    fn take(&mut self, terminal: Terminal) -> Result<(), ReadError>
+    pub fn take(&mut self, terminal: Terminal) -> Result<(), ReadError>
         ensures { Gives (λ _. reading_of self.new) result (step (reading_of self.old) terminal) }
     {
         self.apply(effect_of(self.expected, terminal))
     }
 
     /// The right side, where it is complete.
-    fn finish(self) -> Result<Expr, ReadError>
+    pub fn finish(self) -> Result<Expr, ReadError>
         ensures { Gives (λ expr. expr) result (finished (reading_of self)) }
     {
         match self.expected {

@@ -1,6 +1,6 @@
 //! Right sides against pieces that are written out by hand.
 
-use crate::{ReadError, read_expr};
+use crate::{ReadError, RightSide, Terminal, read_expr};
 use form_ast::{Link, Piece, Power};
 use form_base::Spot;
 use form_lexer::{Token, lex};
@@ -85,5 +85,15 @@ fn reads_nothing_else(rt: HostRuntime) -> Result<(), Fail> {
     for line in lines {
         assert_eq!(rt; pieces_of(rt.alloc(), line)?.as_str(), "");
     }
+    Ok(())
+}
+
+#[test]
+fn reads_a_right_side_as_its_tokens_come(rt: HostRuntime) -> Result<(), Fail> {
+    let mut right_side = RightSide::new(rt.alloc());
+    for token in tokens_of(rt.alloc(), "x^2+1")? {
+        right_side.take(Terminal::from(token))?;
+    }
+    assert!(rt; matches!(&right_side.finish(), Ok(_)));
     Ok(())
 }

@@ -1,9 +1,9 @@
 //! The front of a text read as one token, as far as that needs no memory.
 
-ghost use Rattle.std.specs.Prelude.{◌≡◌, ◌≤◌, ◌==◌, position};
+ghost use Rattle.std.specs.Prelude.{◌≡◌, ◌≤◌, ◌==◌, position, IfSome};
 ghost use Rattle.std.specs.Char.{is_ascii_digit, is_ascii_alphanumeric};
 ghost use Rattle.std.specs.List.{AllPass};
-ghost use Rattle.form_lexer.specs.Tokens.{is_blank, kept_value};
+ghost use Rattle.form_lexer.specs.Tokens.{is_blank, kept_value, value_of};
 ghost use Rattle.form_lexer.specs.Reading.{front, double_mark as double_mark_of, single_mark as single_mark_of, underscored as underscored_of, number_at, word_at, bracket_at, mark_at, token_at as token_at_front};
 
 use crate::{BuiltIn, Mark};
@@ -62,6 +62,31 @@ fn closing(text: &[u8]) -> Option<usize>
 
 /// The value of digits, as far as it is kept.
 fn value(digits: &[u8]) -> u128
+    requires { AllPass is_ascii_digit digits.now }
+    ensures { result ≡ kept_value digits.now }
+{
+    match small_value(digits) {
+        Some(value) => u128::from(value),
+        None => large_value(digits),
+    }
+}
+
+/// The value of digits, where it fits 64 bits, as it mostly does.
+fn small_value(digits: &[u8]) -> Option<u64>
+    requires { AllPass is_ascii_digit digits.now }
+    ensures { IfSome result (λ value. value ≡ value_of digits.now) }
+{
+    let mut value: u64 = 0;
+    for digit in digits {
+        value = value
+            .checked_mul(10)?
+            .checked_add(u64::from(*digit - b'0'))?;
+    }
+    Some(value)
+}
+
+/// The same of any digits.
+fn large_value(digits: &[u8]) -> u128
     requires { AllPass is_ascii_digit digits.now }
     ensures { result ≡ kept_value digits.now }
 {

@@ -1,3 +1,4 @@
+pub mod Lasting
 pub mod Limits
 pub mod Merging
 pub mod Ones

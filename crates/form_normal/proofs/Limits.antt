@@ -1,7 +1,8 @@
 -- Terms within the limits and past them.
-use Rattle.std.proofs.Common.{◌≡◌, ◌<◌, ◌≤◌, true, false, List, [], ◌∷◌, Ok, Err, Some, None, refl}
+use Rattle.std.proofs.Common.{◌≡◌, ◌<◌, ◌≤◌, true, false, List, [], ◌∷◌, Option, Result, Ok, Err, Some, None, refl}
 use Rattle.std.specs.Prelude.{All, nat_abs, nat_le}
 use Rattle.std.specs.List.{range_with_len}
+use Rattle.std.specs.Option.{ok_or}
 use Rattle.std.proofs.lemmas.Bool.{le-leb, lt-leb, leb-true, and_parts}
 use Rattle.std.proofs.lemmas.List.Elements.{All-nil, All-cons, All-head, All-tail}
 use Rattle.form_base.specs.declared.cause.Cause.{Cause}
@@ -55,3 +56,16 @@ module _ (left right : Monomial) where
   pub product_made : (c : Fraction) (t : Term) → multiply left.coefficient right.coefficient ≡ Some c → limited (term_product (left.term ∷ right.term ∷ [])) ≡ Ok t → product_of left right ≡ Ok (record { coefficient = c; term = t })
   unfolding product
   product_made c t e f = rw (e, f) refl
+
+-- what a product of coefficients answers
+
+pub some_from : {E : Type 0} (o : Option Fraction) (e : E) (x : Fraction) → Ok x ≡ ok_or o e → o ≡ Some x
+some_from None e x h = absurd (cc)
+some_from (Some y) e x h = cc
+
+pub same_error : {T E : Type 0} (r : Result T E) (e f : E) → r ≡ Err e → r ≡ Err f → e ≡ f
+same_error r e f h k = cc
+
+pub none_from : {E : Type 0} (o : Option Fraction) (e f : E) → Err f ≡ ok_or o e → o ≡ None
+none_from None e f h = refl
+none_from (Some y) e f h = absurd (cc)

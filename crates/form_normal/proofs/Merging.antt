@@ -22,7 +22,7 @@ plus_zero : (x : ℤ) → x +ℤ pos 0 ≡ x
 plus_zero x = omega (arith, ints)
 
 -- the exponents of powers behind others that are before them
-exponent_append : (out ps : List Power) (symbol : ℕ) → RiseFrom (reach_of out) ps → exponent_in (out ++ ps) symbol ≡ exponent_in out symbol +ℤ exponent_in ps symbol
+pub exponent_append : (out ps : List Power) (symbol : ℕ) → RiseFrom (reach_of out) ps → exponent_in (out ++ ps) symbol ≡ exponent_in out symbol +ℤ exponent_in ps symbol
 exponent_append [] ps symbol rise = sym (zero_plus (exponent_in ps symbol))
 exponent_append (p ∷ out) ps symbol rise = step (eqb p.symbol symbol) refl (exponent_append out ps symbol (rise_lower (reach_of (p ∷ out)) (reach_of out) ps rise (omega arith)))
   where
@@ -38,7 +38,7 @@ rise_append from [] ps left right = rise_lower (max from 0) from ps right (omega
 rise_append from (p ∷ out) ps left right = (left.0, rise_append (suc p.symbol) out ps left.1 (rise_lower (max from (reach_of (p ∷ out))) (max (suc p.symbol) (reach_of out)) ps right (omega arith)))
 
 -- powers that rise behind others
-rise_behind : (out ps : List Power) → RiseFrom 0 out → RiseFrom (reach_of out) ps → RiseFrom 0 (out ++ ps)
+pub rise_behind : (out ps : List Power) → RiseFrom 0 out → RiseFrom (reach_of out) ps → RiseFrom 0 (out ++ ps)
 rise_behind out ps left right = rise_append 0 out ps left (rise_lower (reach_of out) (max 0 (reach_of out)) ps right (omega arith))
 
 reach_push : (out : List Power) (p : Power) → reach_of out ≤ suc p.symbol → reach_of (out ++ p ∷ []) ≤ suc p.symbol

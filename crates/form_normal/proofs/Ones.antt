@@ -28,7 +28,7 @@ reduced_again f l =
     let below : f.denominator / 1 ≡ f.denominator = omega arith in
     rw (l.is_coprime, over_one f.numerator, below, le-leb _ _ l.is_small_above, le-leb _ _ l.is_small_below) refl
 
-multiply_one : (f : Fraction) → IsLowest f → multiply f (whole (pos 1)) ≡ Some f
+pub multiply_one : (f : Fraction) → IsLowest f → multiply f (whole (pos 1)) ≡ Some f
 unfolding multiply
 multiply_one f l =
     let d : f.denominator * 1 ≡ f.denominator = omega arith in
@@ -41,7 +41,7 @@ one_multiply f l =
     rw (one_times f.numerator, d) (reduced_again f l)
 
 -- a term times 1
-term_one : (t : Term) → IsTerm t → t ≡ term_product (t ∷ one ∷ [])
+pub term_one : (t : Term) → IsTerm t → t ≡ term_product (t ∷ one ∷ [])
 term_one t l = product_from t.symbols (t ∷ one ∷ []) l.rising l.present (λ symbol. add (exponent_of t symbol))
   where
     add : (x : ℤ) → x ≡ x +ℤ (pos 0 +ℤ pos 0)

@@ -4,7 +4,7 @@ use Rattle.std.specs.List.{range_with_len, list_all}
 use Rattle.form_base.specs.declared.cause.Cause.{Cause}
 use Rattle.form_base.specs.declared.cause.Cause.TheVariants.{Overflow, PowerRange, TermSize}
 use Rattle.form_frac.specs.Fraction.{Fraction, whole, multiply}
-use Rattle.form_term.specs.Term.{Term, of_symbols, exponent_of, reach_of, powers_of, largest_exponent, largest_size, size}
+use Rattle.form_term.specs.Term.{Term, one, of_symbols, symbol_power, exponent_of, reach_of, powers_of, largest_exponent, largest_size, size}
 use Rattle.form_term.specs.declared.power.Power.{Power}
 use Rattle.form_term.specs.declared.monomial.Monomial.{Monomial}
 
@@ -52,3 +52,11 @@ product factors = joined (coefficient_of factors) (limited (term_product (map (�
 -- the product of two factors
 abbrev pub product_of : Monomial → Monomial → Result Monomial Cause
 product_of left right = product (left ∷ right ∷ [])
+
+-- a number as a factor
+abbrev pub number_alone : Fraction → Monomial
+number_alone number = record { coefficient = number; term = one }
+
+-- a power of a symbol as a factor
+abbrev pub power_alone : Power → Monomial
+power_alone power = record { coefficient = whole (pos 1); term = symbol_power power.symbol power.exponent }

@@ -11,7 +11,7 @@ use std::cmp::Ordering;
 /// The largest size of an exponent.
 const LARGEST_EXPONENT: u32 = 1_000_000_000;
 /// The most factors that a term may have.
-const LARGEST_SIZE: usize = 4096;
+pub(crate) const LARGEST_SIZE: usize = 4096;
 
 /// Why there is no product.
 #[derive(Debug, Drop)]

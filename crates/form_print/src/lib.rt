@@ -4,3 +4,6 @@
 mod print;
 
 pub use print::{print_expression, text_of};
+
+#[cfg(test)]
+mod tests;

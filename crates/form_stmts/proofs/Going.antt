@@ -1,6 +1,6 @@
 -- Reading goes on by a token, a line or a module, and meets what is refused.
-use Rattle.std.proofs.Common.{◌≡◌, inr, ℕ, true, false, List, [], ◌∷◌, ◌++◌, map, Some, Result, Ok, Err, refl, sym, ap, subst, ◌∙◌, append_assoc}
-use Rattle.std.specs.Prelude.{OnOk, IfErr}
+use Rattle.std.proofs.Common.{◌≡◌, inl, inr, ℕ, true, false, List, [], ◌∷◌, ◌++◌, map, Option, Some, None, Result, Ok, Err, refl, sym, ap, subst, ◌∙◌, append_assoc}
+use Rattle.std.specs.Prelude.{OnOk, IfErr, IsTrue}
 use Rattle.std.proofs.lemmas.List.{append-nil, map-append}
 use Rattle.std.proofs.lemmas.Option.{same_Some}
 use Rattle.form_lexer.specs.Tokens.{AppendsTokens, AreTokens}
@@ -13,10 +13,14 @@ use Rattle.form_grammar.specs.Terminal.{terminal_of}
 use Rattle.form_stmts.specs.declared.error.ProgramError.{ProgramError}
 use Rattle.form_stmts.specs.declared.error.ProgramError.TheVariants.{BadSyntax, Memory}
 use Rattle.form_stmts.specs.declared.program.Reader.{Reader}
-use Rattle.form_stmts.specs.Instruction.{begins_with_period}
+use Rattle.form_grammar.specs.declared.right_side.RightSide.{RightSide}
+use Rattle.form_grammar.specs.declared.terminal.Terminal.{Terminal}
+use Rattle.form_grammar.specs.Parts.{HasRead}
+use Rattle.form_stmts.specs.Begun.{AreBegun}
+use Rattle.form_stmts.specs.Instruction.{begins_with_period, is_module_instruction}
 use Rattle.form_stmts.specs.Statement.{IsStatement}
-use Rattle.form_stmts.specs.Program.{Lexed, token, period, Item, statement, items, first_spot, is_semicolon, IsInGrammar, StandsAt, IsRefusedAt, spot_of, AreModules, IsLexed}
-use Rattle.form_stmts.specs.Progress.{ReadTo, ReadsOn, Refuses, RefusesLine, EndsWith, EndsStatement}
+use Rattle.form_stmts.specs.Program.{Lexed, token, period, Item, statement, unfinished, instruction, items, first_spot, is_semicolon, IsInGrammar, StandsAt, IsRefusedAt, spot_of, AreModules, IsLexed}
+use Rattle.form_stmts.specs.Progress.{HasBegun, ReadTo, ReadsOn, Refuses, RefusesLine, EndsWith, EndsStatement, IsRefusedItem}
 
 -- a statement that is none is refused at its first token
 pub refused_statement : (tokens : List Token) (spot : Spot) → Some spot ≡ first_spot tokens → ((s : Statement) → IsStatement (map terminal_of tokens) s → ⊥) → (IsInGrammar (statement tokens) → ⊥) × StandsAt (statement tokens) spot
@@ -31,25 +35,104 @@ statement_added : (tokens : List Token) (old new : List Placed) (others : List I
 statement_added [] old new others more h m = subst (λ (begun : List Placed). AreModules begun others more) h m
 statement_added (t ∷ ts) old new others more h m = (h.0, h.1, subst (λ (begun : List Placed). AreModules begun others more) h.2 m)
 
+all_behind : (lexed rest : List Lexed) (here : Lexed) → items [] (lexed ++ here ∷ rest) ≡ items [] ((lexed ++ here ∷ []) ++ rest)
+all_behind lexed rest here = ap (items []) (sym (append_assoc lexed (here ∷ []) rest))
+
 module _ (old new : Reader) (t : Token) (e : is_semicolon t ≡ true) (h : EndsStatement old new) where
   -- behind a `;` the items are the statement and those of the rest
-  items_behind : (rest : List Lexed) → items old.tokens.items (token t ∷ rest) ≡ statement old.tokens.items ∷ items new.tokens.items rest
-  items_behind rest = rw (e, h.tokens) refl
-
-  all_behind : (lexed rest : List Lexed) → items [] (lexed ++ token t ∷ rest) ≡ items [] ((lexed ++ token t ∷ []) ++ rest)
-  all_behind lexed rest = ap (items []) (sym (append_assoc lexed (token t ∷ []) rest))
+  items_behind : (begun : List Token) (rest : List Lexed) → items begun (token t ∷ rest) ≡ statement begun ∷ items [] rest
+  items_behind begun rest = rw e refl
 
   pub ends_statement : ReadsOn old (token t ∷ []) new
-  ends_statement lexed to = record {
-    refused = λ rest spot r.
-        let behind : IsRefusedAt (statement old.tokens.items ∷ items new.tokens.items rest) spot = inr (statement_in_grammar old.tokens.items old.statements.items new.statements.items h.statements, r) in
-        subst (λ (all : List Item). IsRefusedAt all spot) (all_behind lexed rest) (to.refused (token t ∷ rest) spot (subst (λ (all : List Item). IsRefusedAt all spot) (sym (items_behind rest)) behind));
-    modules = λ rest more m.
-        let behind = statement_added old.tokens.items old.statements.items new.statements.items (items new.tokens.items rest) more h.statements m in
-        let all = to.modules (token t ∷ rest) more (subst (λ (all : List Item). AreModules old.statements.items all more) (sym (items_behind rest)) behind) in
-        subst (λ (modules : List (List Placed)). AreModules [] (items [] ((lexed ++ token t ∷ []) ++ rest)) (modules ++ more)) (sym h.modules)
-        (subst (λ (all : List Item). AreModules [] all (old.modules.items ++ more)) (all_behind lexed rest) all);
-  }
+  ends_statement lexed to =
+      let ended = h.statements to.begun to.has_begun in
+      record {
+        begun = [];
+        has_begun = h.has_begun;
+        refused = λ rest spot r.
+            let behind : IsRefusedAt (statement to.begun ∷ items [] rest) spot = inr (statement_in_grammar to.begun old.statements.items new.statements.items ended, r) in
+            subst (λ (all : List Item). IsRefusedAt all spot) (all_behind lexed rest (token t)) (to.refused (token t ∷ rest) spot (subst (λ (all : List Item). IsRefusedAt all spot) (sym (items_behind to.begun rest)) behind));
+        modules = λ rest more m.
+            let behind = statement_added to.begun old.statements.items new.statements.items (items [] rest) more ended m in
+            let all = to.modules (token t ∷ rest) more (subst (λ (all : List Item). AreModules old.statements.items all more) (sym (items_behind to.begun rest)) behind) in
+            subst (λ (modules : List (List Placed)). AreModules [] (items [] ((lexed ++ token t ∷ []) ++ rest)) (modules ++ more)) (sym h.modules)
+            (subst (λ (all : List Item). AreModules [] all (old.modules.items ++ more)) (all_behind lexed rest (token t)) all);
+      }
+
+-- a statement is refused at its `;`
+pub statement_refused : (old : Reader) (t : Token) (error : ProgramError) → is_semicolon t ≡ true → ((begun : List Token) → HasBegun old begun → IsRefusedItem (statement begun) error) → Refuses old (token t ∷ []) error
+statement_refused old t Memory e h = tt
+statement_refused old t (BadSyntax spot) e h = λ lexed rest to.
+    let here : items to.begun (token t ∷ rest) ≡ statement to.begun ∷ items [] rest = rw e refl in
+    subst (λ (all : List Item). IsRefusedAt all spot) (all_behind lexed rest (token t)) (to.refused (token t ∷ rest) spot (subst (λ (all : List Item). IsRefusedAt all spot) (sym here) (inl (h to.begun to.has_begun))))
+
+module _ (old new : Reader) (t : Token) (e : is_semicolon t ≡ false) (h : (begun : List Token) → HasBegun old begun → HasBegun new (begun ++ t ∷ []))
+    (statements : new.statements.items ≡ old.statements.items) (modules : new.modules.items ≡ old.modules.items) where
+  -- a further token of a statement
+  pub goes_on : ReadsOn old (token t ∷ []) new
+  goes_on lexed to =
+      let on : (rest : List Lexed) → items (to.begun ++ t ∷ []) rest ≡ items to.begun (token t ∷ rest) = λ rest. rw e refl in
+      record {
+        begun = to.begun ++ t ∷ [];
+        has_begun = h to.begun to.has_begun;
+        refused = λ rest spot r.
+            subst (λ (all : List Item). IsRefusedAt all spot) (all_behind lexed rest (token t)) (to.refused (token t ∷ rest) spot (subst (λ (all : List Item). IsRefusedAt all spot) (on rest) r));
+        modules = λ rest more m.
+            let here = subst (λ (begun : List Placed). AreModules begun (items to.begun (token t ∷ rest)) more) statements (subst (λ (all : List Item). AreModules new.statements.items all more) (on rest) m) in
+            let all = to.modules (token t ∷ rest) more here in
+            subst (λ (made : List (List Placed)). AreModules [] (items [] ((lexed ++ token t ∷ []) ++ rest)) (made ++ more)) (sym modules)
+            (subst (λ (all : List Item). AreModules [] all (old.modules.items ++ more)) (all_behind lexed rest (token t)) all);
+      }
+
+-- what is begun begins where what is kept of it does
+pub first_begun : (tokens begun : List Token) (right_side : Option RightSide) → AreBegun tokens right_side begun → first_spot begun ≡ first_spot tokens
+first_begun tokens begun None h = ap first_spot h
+first_begun [] begun (Some r) h = absurd (let f = h.front in cc)
+first_begun (t ∷ ts) begun (Some r) h = ap first_spot h.all
+
+none_begun : (tokens : List Token) → None ≡ first_spot tokens → tokens ≡ []
+none_begun [] e = refl
+none_begun (t ∷ ts) e = cc
+
+-- a line that begins with a period is refused where a statement is begun
+pub unfinished_refused : (old : Reader) (line : PhysicalLine) (spot : Spot) → Some spot ≡ first_spot old.tokens.items → Refuses old (period line ∷ []) (BadSyntax spot)
+unfinished_refused old line spot e lexed rest to =
+    subst (λ (all : List Item). IsRefusedAt all spot) (all_behind lexed rest (period line))
+    (by_begun to.begun (e ∙ sym (first_begun old.tokens.items to.begun old.right_side to.has_begun)) (to.refused (period line ∷ rest) spot))
+  where
+    by_begun : (begun : List Token) → Some spot ≡ first_spot begun → (IsRefusedAt (items begun (period line ∷ rest)) spot → IsRefusedAt (items [] (lexed ++ period line ∷ rest)) spot) → IsRefusedAt (items [] (lexed ++ period line ∷ rest)) spot
+    by_begun [] e r = cc
+    by_begun (t ∷ ts) e r = r (inl ((λ h. h), sym (same_Some spot t.spot e)))
+
+module _ (old : Reader) (line : PhysicalLine) (none : None ≡ first_spot old.tokens.items) where
+  no_begun : (begun : List Token) → HasBegun old begun → begun ≡ []
+  no_begun begun h = none_begun begun (none ∙ sym (first_begun old.tokens.items begun old.right_side h))
+
+  -- or where it is no instruction
+  pub instruction_refused : (IsTrue (is_module_instruction line.text) → ⊥) → Refuses old (period line ∷ []) (BadSyntax (spot_of line))
+  instruction_refused wrong lexed rest to =
+      let here : items to.begun (period line ∷ rest) ≡ instruction line ∷ items [] rest = ap (λ (begun : List Token). items begun (period line ∷ rest)) (no_begun to.begun to.has_begun) in
+      subst (λ (all : List Item). IsRefusedAt all (spot_of line)) (all_behind lexed rest (period line))
+      (to.refused (period line ∷ rest) (spot_of line) (subst (λ (all : List Item). IsRefusedAt all (spot_of line)) (sym here) (inl (wrong, refl))))
+
+  -- and else ends the module
+  pub module_ends : (new : Reader) → IsTrue (is_module_instruction line.text) → HasBegun new [] → new.statements.items ≡ [] → new.modules.items ≡ old.modules.items ++ old.statements.items ∷ [] → ReadsOn old (period line ∷ []) new
+  module_ends new is begun statements modules lexed to =
+      let here : (rest : List Lexed) → items to.begun (period line ∷ rest) ≡ instruction line ∷ items [] rest = λ rest. ap (λ (begun : List Token). items begun (period line ∷ rest)) (no_begun to.begun to.has_begun) in
+      record {
+        begun = [];
+        has_begun = begun;
+        refused = λ rest spot r.
+            subst (λ (all : List Item). IsRefusedAt all spot) (all_behind lexed rest (period line))
+            (to.refused (period line ∷ rest) spot (subst (λ (all : List Item). IsRefusedAt all spot) (sym (here rest)) (inr (is, r))));
+        modules = λ rest more m.
+            let others = subst (λ (begun : List Placed). AreModules begun (items [] rest) more) statements m in
+            let ended : AreModules old.statements.items (instruction line ∷ items [] rest) (old.statements.items ∷ more) = (is, more, refl, others) in
+            let all = to.modules (period line ∷ rest) (old.statements.items ∷ more) (subst (λ (all : List Item). AreModules old.statements.items all (old.statements.items ∷ more)) (sym (here rest)) ended) in
+            let regrouped : old.modules.items ++ old.statements.items ∷ more ≡ new.modules.items ++ more = sym (append_assoc old.modules.items (old.statements.items ∷ []) more) ∙ ap (λ (made : List (List Placed)). made ++ more) (sym modules) in
+            subst (λ (made : List (List Placed)). AreModules [] (items [] ((lexed ++ period line ∷ []) ++ rest)) made) regrouped
+            (subst (λ (all : List Item). AreModules [] all (old.modules.items ++ old.statements.items ∷ more)) (all_behind lexed rest (period line)) all);
+      }
 
 module _ {T : Type 0} (r : Result T ProgramError) (old new : Reader) (line : PhysicalLine) (e : begins_with_period line.text ≡ true) where
   is_period : IsLexed line (period line ∷ [])
@@ -101,3 +184,15 @@ is_tokens line spot text old new tokens e h s t o n =
     let all : tokens ≡ h.tokens = n ∙ h.appended ∙ ap (λ (front : List Token). front ++ h.tokens) o in
     let are : AreTokens (spot_of line) line.text h.tokens = subst (λ (x : List ℕ). AreTokens (spot_of line) x h.tokens) t (subst (λ (x : Spot). AreTokens x text h.tokens) s h.are_tokens) in
     rw (e, all) (h.tokens, are, refl)
+
+-- a further token of a right side
+pub begun_on : (tokens begun : List Token) (t : Token) (o : Option RightSide) (old new : RightSide) → o ≡ Some old → ((read : List Terminal) → HasRead read old → HasRead (read ++ terminal_of t ∷ []) new)
+    → AreBegun tokens o begun → AreBegun tokens (Some new) (begun ++ t ∷ [])
+begun_on tokens begun t o old new e f h = with_rest (subst (λ (x : Option RightSide). AreBegun tokens x begun) e h) where
+  with_rest : AreBegun tokens (Some old) begun → AreBegun tokens (Some new) (begun ++ t ∷ [])
+  with_rest k = record {
+    rest = k.rest ++ t ∷ [];
+    all = ap (λ (front : List Token). front ++ t ∷ []) k.all ∙ append_assoc tokens k.rest (t ∷ []);
+    front = k.front;
+    read = subst (λ (read : List Terminal). HasRead read new) (sym (map-append terminal_of k.rest (t ∷ []))) (f (map terminal_of k.rest) k.read);
+  }

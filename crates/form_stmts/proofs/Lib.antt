@@ -1,4 +1,5 @@
 pub mod Excluded
+pub mod Fronts
 pub mod Going
 pub mod Lawfulness
 pub mod Lines

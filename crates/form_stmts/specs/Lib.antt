@@ -1,3 +1,4 @@
+pub mod Begun
 pub mod Instruction
 pub mod Keyword
 pub mod Program

@@ -9,13 +9,20 @@ use Rattle.form_grammar.specs.Terminal.{terminal_of}
 use Rattle.form_stmts.specs.declared.error.ProgramError.{ProgramError}
 use Rattle.form_stmts.specs.declared.error.ProgramError.TheVariants.{BadSyntax, Memory}
 use Rattle.form_stmts.specs.declared.program.Reader.{Reader}
+use Rattle.form_stmts.specs.Begun.{AreBegun}
 use Rattle.form_stmts.specs.Statement.{IsStatement}
 use Rattle.form_stmts.specs.Program.{Lexed, Item, items, IsInGrammar, StandsAt, IsRefusedAt, AreModules, IsLexed}
 
+-- a reader has these tokens of a statement that is begun
+abbrev pub HasBegun : Reader → List Token → Type 0
+HasBegun reader begun = AreBegun reader.tokens.items reader.right_side begun
+
 -- a reader has come to the end of this: what is refused or made of what follows is so of all
 pub record ReadTo (lexed : List Lexed) (reader : Reader) : Type 0 where
-  pub refused : (rest : List Lexed) (spot : Spot) → IsRefusedAt (items reader.tokens.items rest) spot → IsRefusedAt (items [] (lexed ++ rest)) spot
-  pub modules : (rest : List Lexed) (more : List (List Placed)) → AreModules reader.statements.items (items reader.tokens.items rest) more
+  pub begun : List Token
+  pub has_begun : HasBegun reader begun
+  pub refused : (rest : List Lexed) (spot : Spot) → IsRefusedAt (items begun rest) spot → IsRefusedAt (items [] (lexed ++ rest)) spot
+  pub modules : (rest : List Lexed) (more : List (List Placed)) → AreModules reader.statements.items (items begun rest) more
       → AreModules [] (items [] (lexed ++ rest)) (reader.modules.items ++ more)
 
 -- a reader has come further by this
@@ -38,8 +45,8 @@ EndsWith [] old new = new ≡ old
 EndsWith (t ∷ ts) old new = (s : Statement) × IsStatement (map terminal_of (t ∷ ts)) s × (new ≡ old ++ record { spot = t.spot; statement = s } ∷ [])
 
 pub record EndsStatement (old new : Reader) : Type 0 where
-  pub tokens : new.tokens.items ≡ []
-  pub statements : EndsWith old.tokens.items old.statements.items new.statements.items
+  pub has_begun : HasBegun new []
+  pub statements : (begun : List Token) → HasBegun old begun → EndsWith begun old.statements.items new.statements.items
   pub modules : new.modules.items ≡ old.modules.items
 
 -- an item is refused at this spot

@@ -5,10 +5,10 @@ ghost use Rattle.form_lines.specs.Text.{PhysicalLine};
 
 use crate::ProgramError;
 use crate::instruction::{begins_with_period, is_module_instruction};
-use crate::statement::read_statement;
+use crate::statement::{begins_definition, read_begun};
 use form_ast::{Module, Placed};
 use form_base::Spot;
-use form_grammar::ReadError;
+use form_grammar::{ReadError, RightSide, Terminal};
 use form_lexer::{Mark, Token, TokenKind, laws, lex};
 use form_lines::Line;
 use std::alloc::Global;
@@ -17,8 +17,10 @@ use std::mem;
 /// A program while it is read.
 #[derive(Drop)]
 struct Reader {
-    /// The tokens of the statement that is begun.
+    /// The tokens of the statement that is begun, of a definition those up to its `=`.
     tokens: Vec<Token>,
+    /// What is read of the right side, where a definition is begun and its `=` is read.
+    right_side: Option<RightSide>,
     /// The statements of the module that is begun.
     statements: Vec<Placed>,
     modules: Vec<Module>,
@@ -41,13 +43,15 @@ fn first_spot(tokens: &[Token]) -> Option<Spot>
 }
 
 impl Reader {
-    ghost use Rattle.form_stmts.specs.Progress.{EndsStatement, IsRefusedItem, ReadTo, ReadsOn, Refuses, RefusesLine};
+    ghost use Rattle.form_lexer.specs.declared.token.Token.{Token};
+    ghost use Rattle.form_stmts.specs.Progress.{EndsStatement, HasBegun, IsRefusedItem, ReadTo, ReadsOn, Refuses, RefusesLine};
 
     fn new(alloc: Global) -> Reader
         ensures { ReadTo [] result }
     {
         Reader {
             tokens: Vec::new(alloc),
+            right_side: None,
             statements: Vec::new(alloc),
             modules: Vec::new(alloc),
         }
@@ -56,13 +60,14 @@ impl Reader {
     /// Ends the statement that is begun.
     fn end_statement(&mut self, alloc: Global) -> Result<(), ProgramError>
         ensures ended { OnOk result (EndsStatement self.old self.new) }
-        ensures refused { IfErr result (λ error. IsRefusedItem (statement self.old.tokens.items) error) }
+        ensures refused { IfErr result (λ error. (begun : List Token) → HasBegun self.old begun → IsRefusedItem (statement begun) error) }
     {
         let tokens = mem::replace(&mut self.tokens, Vec::new(alloc));
+        let right_side = self.right_side.take();
         let Some(spot) = first_spot(&tokens) else {
             return Ok(());
         };
-        match read_statement(alloc, tokens) {
+        match read_begun(alloc, tokens, right_side) {
             Ok(statement) => {
                 self.statements.push(Placed { spot, statement })?;
                 Ok(())
@@ -79,7 +84,14 @@ impl Reader {
         if is_semicolon(&token) {
             return self.end_statement(alloc);
         }
+        if let Some(right_side) = &mut self.right_side {
+            right_side.take(Terminal::from(token))?;
+            return Ok(());
+        }
         self.tokens.push(token)?;
+        if begins_definition(&self.tokens) {
+            self.right_side = Some(RightSide::new(alloc));
+        }
         Ok(())
     }
 

@@ -1,14 +1,18 @@
-ghost use Rattle.std.specs.Prelude.{◌≡◌, map, IfOk, IfErr, Some, None, if◌then◌else◌};
+ghost use Rattle.std.specs.Prelude.{◌≡◌, List, ◌++◌, map, true, IfOk, IfErr, Some, None, if◌then◌else◌};
 ghost use Rattle.form_grammar.specs.Reading.{Excludes};
 ghost use Rattle.form_grammar.specs.Terminal.{terminal_of};
+ghost use Rattle.form_grammar.specs.Parts.{HasRead};
+ghost use Rattle.form_grammar.specs.declared.terminal.Terminal.{Terminal};
+ghost use Rattle.form_lexer.specs.declared.token.Token.{Token};
+ghost use Rattle.form_stmts.specs.Begun.{AreBegun, is_equals_kind, is_front, is_local_kind, is_name_kind};
 ghost use Rattle.form_stmts.specs.Reading.{after_equals, front_name, terminals, with_rest};
 ghost use Rattle.form_stmts.specs.Statement.{FollowsKeyword, IsDefinition, IsStatement};
 
 use crate::keyword::{Keyword, keyword_of};
 use crate::names::{read_names, read_names_or_none};
 use form_ast::{Spelled, Statement};
-use form_grammar::{ReadError, Terminal, read_expr};
-use form_lexer::Token;
+use form_grammar::{ReadError, RightSide, Terminal, read_expr};
+use form_lexer::{Mark, Token, TokenKind};
 use std::alloc::Global;
 use std::vec::IntoIter;
 
@@ -92,5 +96,74 @@ pub fn read_statement(alloc: Global, tokens: Vec<Token>) -> Result<Statement, Re
     match keyword_of(first.name.as_str()) {
         Some(keyword) => read_behind(alloc, keyword, tokens),
         None => Err(ReadError::BadSyntax),
+    }
+}
+
+/// Whether the tokens are a definition up to its `=`.
+pub fn begins_definition(tokens: &[Token]) -> bool
+    ensures { result ≡ is_front tokens.now }
+{
+    match tokens {
+        [keyword, name, equals] => is_local(keyword) && is_name(name) && is_equals(equals),
+        _ => false,
+    }
+}
+
+fn is_local(token: &Token) -> bool
+    ensures { result ≡ is_local_kind token.now.kind }
+{
+    match &token.kind {
+        TokenKind::Name(name) => matches!(keyword_of(name.as_str()), Some(Keyword::Local)),
+        _ => false,
+    }
+}
+
+fn is_name(token: &Token) -> bool
+    ensures { result ≡ is_name_kind token.now.kind }
+{
+    matches!(token.kind, TokenKind::Name(_))
+}
+
+fn is_equals(token: &Token) -> bool
+    ensures { result ≡ is_equals_kind token.now.kind }
+{
+    matches!(token.kind, TokenKind::Mark(Mark::Equals))
+}
+
+/// The statement that is begun with these tokens; where it is a definition, they go up to its `=`, and behind that this
+/// is its right side.
+pub fn read_begun(
+    alloc: Global,
+    tokens: Vec<Token>,
+    right_side: Option<RightSide>,
+) -> Result<Statement, ReadError>
+    ensures found { IfOk result (λ statement. (begun : List Token) → AreBegun tokens.items right_side begun →
+        IsStatement (map terminal_of begun) statement) }
+    ensures none { IfErr result (λ error. (begun : List Token) → AreBegun tokens.items right_side begun →
+        Excludes error (IsStatement (map terminal_of begun))) }
+{
+    match right_side {
+        Some(right_side) => end_definition(tokens, right_side),
+        None => read_statement(alloc, tokens),
+    }
+}
+
+/// The definition that is up to its `=` these tokens, and has this right side.
+fn end_definition(tokens: Vec<Token>, right_side: RightSide) -> Result<Statement, ReadError>
+    ensures found { IfOk result (λ statement. (rest : List Terminal) → is_front tokens.items ≡ true → HasRead rest right_side →
+        IsStatement (map terminal_of tokens.items ++ rest) statement) }
+    ensures none { IfErr result (λ error. (rest : List Terminal) → is_front tokens.items ≡ true → HasRead rest right_side →
+        Excludes error (IsStatement (map terminal_of tokens.items ++ rest))) }
+{
+    let mut tokens = tokens.into_iter();
+    let Some(_) = take_name(&mut tokens) else {
+        return Err(ReadError::BadSyntax);
+    };
+    let Some(name) = take_name(&mut tokens) else {
+        return Err(ReadError::BadSyntax);
+    };
+    match right_side.finish() {
+        Ok(expr) => Ok(Statement::Local(name, expr)),
+        Err(error) => Err(error),
     }
 }

@@ -1,5 +1,7 @@
 ghost use Rattle.std.specs.Prelude.{◌≡◌};
+ghost use Rattle.form_frac.specs.Fraction.{IsLowest};
 ghost use Rattle.form_term.specs.Monomial.{unit, negated};
+ghost use Rattle.form_term.specs.Term.{IsTerm};
 
 use crate::Term;
 use form_frac::Frac;
@@ -21,6 +23,15 @@ impl Monomial {
             coefficient: Frac::whole(1),
             term: Term::one(alloc),
         }
+    }
+
+    /// What holds of its parts, for the proofs of callers; it does nothing.
+    pub fn laws(&self)
+        ensures lowest { IsLowest self.now.coefficient }
+        ensures lawful { IsTerm self.now.term }
+    {
+        let _ = self.coefficient.numerator();
+        let _ = self.term.powers();
     }
 
     pub fn negated(self) -> Monomial

@@ -1,4 +1,4 @@
-ghost use Rattle.std.specs.Prelude.{◌≡◌, ◌≤◌, nat_abs, IfOk};
+ghost use Rattle.std.specs.Prelude.{◌≡◌, ◌≤◌, ◌++◌, [], ◌∷◌, nat_abs, IfOk, OnOk};
 ghost use Rattle.form_term.specs.Term.{IsTerm, one, of_symbols, symbol_power, largest_exponent, size, depth};
 
 use crate::{Power, compare};
@@ -53,6 +53,15 @@ impl Term {
         ensures { result ≡ of_symbols powers.items }
     {
         Term { symbols: powers }
+    }
+
+    /// Multiplies it by a power of a symbol that is declared behind all of its own.
+    pub fn push(&mut self, power: Power) -> Result<(), AllocError>
+        requires { IsTerm (of_symbols (self.old.symbols ++ power ∷ [])) }
+        ensures { OnOk result (self.new ≡ of_symbols (self.old.symbols ++ power ∷ [])) }
+    {
+        self.symbols.push(power)?;
+        Ok(())
     }
 
     /// The symbols whose exponent isn't 0, in order of declaration.

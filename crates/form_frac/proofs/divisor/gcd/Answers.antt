@@ -14,5 +14,5 @@ returns-then-lesser-eq0 c =
 
 pub returns-else-lesser-eq0 : goal.returns-else-lesser-eq0
 returns-else-lesser-eq0 c =
-    let h : IsGcd c.args.a c.args.b c.gcd_of_small.result = c.loop-lesser.invariant _ (IsGcd-from_mod _ _ _ c.gcd_of_small.ensures) in
+    let h : IsGcd c.args.a c.args.b c.gcd_of_small.result = c.loop-lesser.invariant _ (IsGcd-from_mod c.loop-lesser.greater c.loop-lesser.lesser _ (rw c.rest.ensures at c.gcd_of_small.ensures)) in
     record { value = sym (gcd_from_IsGcd _ _ _ h); divides_left = h.0; divides_right = h.1; greatest = h.2 }

@@ -1,11 +1,12 @@
 -- Each turn goes on with the walk, and at its end one side is used up (`Merging`).
 use Rattle.std.proofs.Common.{◌≡◌, ℕ, ◌+◌, ◌-◌, ◌<◌, List, ◌∷◌, ◌++◌, length, take, drop, get_or, refl, ap, sym, ◌∙◌, inl, inr, length-drop, arith, rules}
-use Rattle.std.specs.Prelude.{ℤ, pos, negsuc, ◌+ℤ◌, nat_abs, FitsSigned}
+use Rattle.std.specs.Prelude.{ℤ, pos, negsuc, ◌+ℤ◌, FitsSigned}
 use Rattle.std.specs.Int.{cast_unsigned, w32}
 use Rattle.std.proofs.lemmas.Cmp.{ranked}
 use Rattle.std.proofs.lemmas.List.{drop_more, drop_all, take_all}
 use Rattle.std.specs.declared.cmp.Ordering.TheVariants.{Less, Equal, Greater}
 use Rattle.form_term.specs.declared.power.Power.{Power}
+use Rattle.form_normal.proofs.Lasting.{present}
 use Rattle.form_normal.proofs.Merging.{merging_left, merging_right, merging_both, merging_none, merging_ends}
 use Rattle.form_normal.proofs.products.merged.Goals as goal
 use Rattle.form_normal.proofs.products.merged.Goals.{then-power-ne0+in_ok-push-in-Equal, else-power-ne0, then-loop-i-test+else-j-right, else-loop-i-test}
@@ -17,10 +18,6 @@ at_index ps i p within e = drop_more ps i p within ∙ ap (λ (x : Power). x ∷
 -- what is left at an index, as a range gives it
 from_index : (ps : List Power) (i : ℕ) → take (length ps - i) (drop i ps) ≡ drop i ps
 from_index ps i = take_all (length ps - i) (drop i ps) (omega (arith, length-drop i ps))
-
-present : (z : ℤ) → (cast_unsigned w32 z ≡ 0 → ⊥) → 0 < nat_abs z
-present (pos n) h = omega arith
-present (negsuc n) h = omega arith
 
 none : (z : ℤ) → FitsSigned w32 z → cast_unsigned w32 z ≡ 0 → z ≡ pos 0
 none (pos n) fits e = ap pos e

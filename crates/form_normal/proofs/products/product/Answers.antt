@@ -1,23 +1,11 @@
 -- The product of the coefficients and that of the terms make up the product (`Limits`).
-use Rattle.std.proofs.Common.{◌≡◌, Option, Some, None, Result, Ok, Err, refl, ap, sym, ◌∙◌}
-use Rattle.std.specs.Option.{ok_or}
+use Rattle.std.proofs.Common.{◌≡◌, Err, ap, sym, ◌∙◌}
 use Rattle.std.proofs.lemmas.Result.{err_from_is_err_and}
 use Rattle.form_base.specs.declared.cause.Cause.TheVariants.{Overflow}
-use Rattle.form_frac.specs.Fraction.{Fraction, multiply}
+use Rattle.form_frac.specs.Fraction.{multiply}
 use Rattle.form_normal.specs.declared.products.ProductError.TheVariants.{Refused}
-use Rattle.form_normal.proofs.Limits.{product_overflows, product_refused, product_made}
+use Rattle.form_normal.proofs.Limits.{some_from, none_from, same_error, product_overflows, product_refused, product_made}
 use Rattle.form_normal.proofs.products.product.Goals as goal
-
-some_from : {E : Type 0} (o : Option Fraction) (e : E) (x : Fraction) → Ok x ≡ ok_or o e → o ≡ Some x
-some_from None e x h = absurd (cc)
-some_from (Some y) e x h = cc
-
-same_error : {T E : Type 0} (r : Result T E) (e f : E) → r ≡ Err e → r ≡ Err f → e ≡ f
-same_error r e f h k = cc
-
-none_from : {E : Type 0} (o : Option Fraction) (e f : E) → Err f ≡ ok_or o e → o ≡ None
-none_from None e f h = refl
-none_from (Some y) e f h = absurd (cc)
 
 pub returns-in_default-clause-refused : goal.returns-in_default-clause-refused
 returns-in_default-clause-refused c = λ cause e.

@@ -3,11 +3,11 @@ use Rattle.form_frac.specs.Fraction.{largest}
 use Rattle.form_frac.proofs.Fractions.{gcd_some, none_if, some_if, multiply_is, multiply_none_above, multiply_none_below, left_coprime, denominator_left_some, size_left, denominator_left}
 use Rattle.form_frac.proofs.frac.Frac.product.Goals as goal
 
-pub nonzero_div-left_size : goal.nonzero_div-left_size
-nonzero_div-left_size c = rw c.gcd-left.ensures.value (gcd_some _ _ (omega arith))
+pub quotient-requires : goal.quotient-requires
+quotient-requires c = rw c.gcd-left.ensures.value (gcd_some _ _ (omega arith))
 
-pub nonzero_div-right_size : goal.nonzero_div-right_size
-nonzero_div-right_size c = rw c.gcd-right.ensures.value (gcd_some _ _ (omega arith))
+pub quotient-requires-2 : goal.quotient-requires-2
+quotient-requires-2 c = rw c.gcd-right.ensures.value (gcd_some _ _ (omega arith))
 
 pub returns-in_err-size : goal.returns-in_err-size
 returns-in_err-size c =
@@ -15,11 +15,11 @@ returns-in_err-size c =
     let k : nat_le (size_left c.args.self c.args.other) largest ≡ false = cc in
     c.from_residual.ensures ∙ sym (multiply_none_above c.args.self c.args.other c.denominator-left_denominator.ensures.lowest c.denominator-right_denominator.ensures.lowest k)
 
-pub nonzero_div-left_denominator : goal.nonzero_div-left_denominator
-nonzero_div-left_denominator c = rw c.gcd-right.ensures.value (gcd_some _ _ (omega arith))
+pub quotient-requires-3 : goal.quotient-requires-3
+quotient-requires-3 c = rw c.gcd-right.ensures.value (gcd_some _ _ (omega arith))
 
-pub nonzero_div-right_denominator : goal.nonzero_div-right_denominator
-nonzero_div-right_denominator c = rw c.gcd-left.ensures.value (gcd_some _ _ (omega arith))
+pub quotient-requires-4 : goal.quotient-requires-4
+quotient-requires-4 c = rw c.gcd-left.ensures.value (gcd_some _ _ (omega arith))
 
 pub returns-in_err-denominator : goal.returns-in_err-denominator
 returns-in_err-denominator c =

@@ -1,0 +1,7 @@
+use Rattle.std.proofs.Common.{refl, ap, ◌∙◌}
+use Rattle.form_expand.specs.Listing.{powers, limited, single}
+use Rattle.form_expand.proofs.factor.Factor.parenthesis.Goals as goal
+
+pub returns-then-power-eq0 : goal.returns-then-power-eq0
+unfolding powers
+returns-then-power-eq0 c = rw (c.if-power-eq0.true, c.new.ensures) (ap (limited c.args.limit) (c.single.ensures ∙ ap single c.unit.ensures))

@@ -1,0 +1,52 @@
+-- Reading a right side that comes token by token.
+use Rattle.std.proofs.Common.{◌≡◌, List, [], ◌∷◌, ◌++◌, Bool, true, false, Some, None, Result, Ok, Err, sym, ap, ◌∙◌, append_assoc}
+use Rattle.std.specs.Prelude.{IfOk, IfErr, option_and_then}
+use Rattle.std.proofs.lemmas.List.{append-nil}
+use Rattle.form_ast.specs.declared.expr.Piece.{Piece}
+use Rattle.form_grammar.specs.declared.error.ReadError.{ReadError}
+use Rattle.form_grammar.specs.declared.error.ReadError.TheVariants.{BadSyntax, Memory}
+use Rattle.form_grammar.specs.declared.reader.Reader.{Reader}
+use Rattle.form_grammar.specs.declared.right_side.RightSide.{RightSide}
+use Rattle.form_grammar.specs.declared.terminal.Terminal.{Terminal}
+use Rattle.form_grammar.specs.Grammar.{IsExpr}
+use Rattle.form_grammar.specs.Parts.{HasRead, pieces_with}
+use Rattle.form_grammar.specs.Reading.{Reading as Readings, Gives, Excludes, begun, finished, reading_of, run, step}
+use Rattle.form_grammar.proofs.Read.{found, none}
+
+-- one terminal further
+pub goes_on : (old new : RightSide) (t : Terminal) → ((rest : List Terminal) → pieces_with old (t ∷ rest) ≡ pieces_with new rest) → (read : List Terminal) → HasRead read old → HasRead (read ++ t ∷ []) new
+goes_on old new t e read h = λ rest. ap (run begun) (append_assoc read (t ∷ []) rest) ∙ h (t ∷ rest) ∙ e rest
+
+pub step_taken : (r next : Readings) (t : Terminal) (rest : List Terminal) → step r t ≡ Some next → run r (t ∷ rest) ≡ run next rest
+unfolding run
+step_taken r next t rest e = ap (option_and_then (λ s. run s rest)) e
+
+pub step_refused : (r : Readings) (t : Terminal) (rest : List Terminal) → step r t ≡ None → run r (t ∷ rest) ≡ None
+unfolding run
+step_refused r t rest e = ap (option_and_then (λ s. run s rest)) e
+
+-- what is read to its end
+read_to_end : (r : RightSide) (read : List Terminal) → HasRead read r → run begun read ≡ pieces_with r []
+read_to_end r read h = ap (run begun) (sym (append-nil read)) ∙ h []
+
+pub finish_found : (r : RightSide) (o : Result (List Piece) ReadError) → Gives (λ pieces. pieces) o (pieces_with r []) → IfOk o (λ pieces. (read : List Terminal) → HasRead read r → IsExpr read pieces)
+finish_found r (Ok pieces) e = λ read h. found (Ok pieces) read (read_to_end r read h ∙ e)
+finish_found r (Err error) e = tt
+
+pub finish_none : (r : RightSide) (o : Result (List Piece) ReadError) → Gives (λ pieces. pieces) o (pieces_with r []) → IfErr o (λ error. (read : List Terminal) → HasRead read r → Excludes error (IsExpr read))
+finish_none r (Ok pieces) e = tt
+finish_none r (Err BadSyntax) e = λ read h. none (Err BadSyntax) read (read_to_end r read h ∙ e)
+finish_none r (Err Memory) e = λ read h. tt
+
+module _ (r next : Reader) (t : Terminal) where
+  pub taken : (has_failed : Bool) → has_failed ≡ false → step (reading_of r) t ≡ Some (reading_of next)
+      → (rest : List Terminal) → pieces_with (record { reader = r; has_failed = has_failed }) (t ∷ rest) ≡ pieces_with (record { reader = next; has_failed = has_failed }) rest
+  taken has_failed on e rest = rw on (step_taken (reading_of r) (reading_of next) t rest e)
+
+  pub failing : (has_failed : Bool) → has_failed ≡ false → step (reading_of r) t ≡ None
+      → (rest : List Terminal) → pieces_with (record { reader = r; has_failed = has_failed }) (t ∷ rest) ≡ pieces_with (record { reader = next; has_failed = true }) rest
+  failing has_failed on e rest = rw on (step_refused (reading_of r) t rest e)
+
+pub ends_here : (r : RightSide) (o : Result (List Piece) ReadError) → r.has_failed ≡ false → Gives (λ pieces. pieces) o (finished (reading_of r.reader)) → Gives (λ pieces. pieces) o (pieces_with r [])
+unfolding run
+ends_here r o on h = rw on h

@@ -1,0 +1,60 @@
+//! A right side that is read token by token as it comes, so that its tokens needn't be kept.
+ghost use Rattle.std.specs.Prelude.{List, [], ◌∷◌, ◌++◌, IfErr, IfOk, OnOk};
+ghost use Rattle.form_grammar.specs.declared.terminal.Terminal.{Terminal};
+ghost use Rattle.form_grammar.specs.Grammar.{IsExpr};
+ghost use Rattle.form_grammar.specs.Parts.{HasRead};
+ghost use Rattle.form_grammar.specs.Reading.{Excludes};
+
+use crate::ReadError;
+use crate::reader::Reader;
+use crate::terminal::Terminal;
+use form_ast::Expr;
+use std::alloc::{AllocError, Global};
+
+/// A right side up to some token.
+#[derive(Drop)]
+pub struct RightSide {
+    reader: Reader,
+    /// Whether nothing that may follow makes a right side of it.
+    has_failed: bool,
+}
+
+impl RightSide {
+    pub fn new(alloc: Global) -> RightSide
+        ensures { HasRead [] result }
+    {
+        RightSide {
+            reader: Reader::new(alloc),
+            has_failed: false,
+        }
+    }
+
+    /// Goes one terminal further.
+    pub fn take(&mut self, terminal: Terminal) -> Result<(), AllocError>
+        ensures { OnOk result ((read : List Terminal) → HasRead read self.old → HasRead (read ++ terminal ∷ []) self.new) }
+    {
+        if self.has_failed {
+            return Ok(());
+        }
+        match self.reader.take(terminal) {
+            Ok(()) => Ok(()),
+            Err(ReadError::BadSyntax) => {
+                self.has_failed = true;
+                Ok(())
+            }
+            Err(ReadError::Memory) => Err(AllocError),
+        }
+    }
+
+    /// The right side, where it is complete.
+    pub fn finish(self) -> Result<Expr, ReadError>
+        ensures found { IfOk result (λ expr. (read : List Terminal) → HasRead read self → IsExpr read expr) }
+        ensures none { IfErr result (λ error. (read : List Terminal) → HasRead read self → Excludes error (IsExpr read)) }
+    {
+        let RightSide { reader, has_failed } = self;
+        if has_failed {
+            return Err(ReadError::BadSyntax);
+        }
+        reader.finish()
+    }
+}
