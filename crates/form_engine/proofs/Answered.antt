@@ -1,7 +1,5 @@
 -- What the status that a call answers says of what was to be done.
 use Rattle.std.proofs.Common.{◌≡◌, ◌≢◌, ◌≤◌, ◌<◌, ℕ, arith, List, [], Option, Result, Ok, Err, IfOk, sym, subst, ap, ◌∙◌, refl, inl, inr}
-use Rattle.std.specs.Prelude.{⊤}
-use Rattle.form_base.specs.declared.cause.Cause.{Cause}
 use Rattle.form_base.specs.declared.settings.Settings.{Settings}
 use Rattle.form_base.specs.declared.status.Status.{Status}
 use Rattle.form_base.specs.declared.status.Status.TheVariants.{Usage, Missing, TextTooLong}

@@ -1,5 +1,5 @@
 -- How far a call came with its outcome, at each of its ends.
-use Rattle.std.proofs.Common.{◌≡◌, ◌≢◌, ◌≤◌, ◌<◌, ℕ, arith, List, [], ◌++◌, length, take, Option, Some, None, IfSome, Result, Ok, Err, sym, subst, ap, ◌∙◌, refl, inl, inr}
+use Rattle.std.proofs.Common.{◌≡◌, ◌≢◌, ◌≤◌, ◌<◌, ℕ, arith, List, [], ◌++◌, length, Option, Some, None, IfSome, IfOk, Result, Ok, Err, sym, subst, ap, ◌∙◌, refl, inl, inr}
 use Rattle.std.specs.Prelude.{⊤}
 use Rattle.std.proofs.lemmas.List.{append-nil}
 use Rattle.std.proofs.Math.Seq.{take-nil, take-length}
@@ -8,9 +8,13 @@ use Rattle.form_outside.specs.Faults.{HasRisen, last_count}
 use Rattle.form_outside.specs.declared.sink.SinkErr.{SinkErr}
 use Rattle.form_outside.specs.Taken.{Takes}
 use Rattle.form_outside.specs.Texts.{Texts}
+use Rattle.form_preproc.specs.Answer.{IsAnswer}
+use Rattle.form_preproc.specs.declared.file.Expanded.{Expanded}
+use Rattle.form_preproc.specs.declared.file.FileError.{FileError}
+use Rattle.form_words.specs.declared.job.Job.{Job}
 use Rattle.form_engine.specs.Answer.{IsAnswerOutcome, Carries, nothing_more}
 use Rattle.form_engine.specs.Call.{IsStop, FollowsOutcome}
-use Rattle.form_engine.specs.Outcome.{Outcome, IsOutcome}
+use Rattle.form_engine.specs.Outcome.{Outcome, IsOutcome, IsJobOutcome}
 use Rattle.form_engine.specs.Stop.{status_of, ending}
 use Rattle.form_engine.specs.declared.answer.Answer.{Answer}
 use Rattle.form_engine.specs.declared.stop.Stop.{Stop}
@@ -109,3 +113,11 @@ finished words texts answer o old mid new status (Err early) stop h is put end w
     as_stop : (a : Option (List ℕ)) (p : List ℕ) (b : Option (List ℕ)) → Takes {E = SinkErr} a p b (Ok tt) → Takes {E = Stop} a p b (Ok tt)
     as_stop None p b h = tt
     as_stop (Some old) p b h = h
+
+-- what is to be done for what the preprocessor answers is to be done for the job
+pub job_decided : (job : Job) (texts : Option Texts) (x : Result Expanded FileError) (r : Result Answer Stop) → IfSome texts (λ all. IsAnswer all job.file x) →
+    IfOk r (λ answer. (all : Texts) → IsAnswer all job.file x → (o : Outcome) → IsAnswerOutcome answer o → IsJobOutcome all job o) →
+    IfOk r (λ answer. IfSome texts (λ all. (o : Outcome) → IsAnswerOutcome answer o → IsJobOutcome all job o))
+job_decided job texts x (Err stop) known h = tt
+job_decided job None x (Ok answer) known h = tt
+job_decided job (Some all) x (Ok answer) known h = h all known

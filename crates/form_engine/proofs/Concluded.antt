@@ -1,5 +1,5 @@
 -- What a call that wasn't stopped says of the outcome.
-use Rattle.std.proofs.Common.{◌≡◌, ◌≢◌, ◌⊎◌, ℕ, List, Option, Some, None, IfSome, subst, sym, ap, ◌∙◌, refl, inl, inr}
+use Rattle.std.proofs.Common.{◌≡◌, ◌⊎◌, ℕ, List, Option, Some, None, IfSome, subst, ap, ◌∙◌, refl, inl, inr}
 use Rattle.form_base.specs.declared.cause.Cause.{Cause}
 use Rattle.form_base.specs.declared.place.Place.{Place}
 use Rattle.form_base.specs.declared.status.Status.{Status}
@@ -72,3 +72,16 @@ pub of_status : (words : List (List ℕ)) (texts : Option Texts) (status : Statu
     → IfSome texts (λ all. (cause : Cause) (place : Place) → status ≡ RefusedRun cause place → (bytes : List ℕ) × IsOutcome words all (record { bytes = bytes; status = RefusedRun cause place }))
 of_status words None status h = tt
 of_status words (Some all) status h = λ cause place e. (h.0, subst (λ (s : Status). IsOutcome words all (record { bytes = h.0; status = s })) e h.1)
+
+too_long_at : (words : List (List ℕ)) (all : Texts) (o : Outcome) (name : List ℕ) → IsOutcome words all o → o.status ≡ TextTooLong name → IsOutcome words all (refused (TextTooLong name))
+too_long_at words all o name is e = elim (run_or_refused words all o is) [
+  | inl (inl done) ↦ cc
+  | inl (inr run) ↦ let status = run.2 in cc
+  | inr line ↦ subst (λ (p : Outcome). IsOutcome words all p) (line ∙ ap refused e) is
+]
+
+-- so is a text that is too long
+pub too_long_refusal : (words : List (List ℕ)) (texts : Option Texts) (status : Status) → Decided words texts status
+    → IfSome texts (λ all. (name : List ℕ) → status ≡ TextTooLong name → IsOutcome words all (refused (TextTooLong name)))
+too_long_refusal words None status h = tt
+too_long_refusal words (Some all) status h = λ name e. too_long_at words all (record { bytes = h.0; status = status }) name h.1 e

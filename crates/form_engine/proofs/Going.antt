@@ -1,6 +1,5 @@
 -- Modules that are carried out one after the other.
-use Rattle.std.proofs.Common.{◌≡◌, ◌<◌, ◌≤◌, ◌+◌, ℕ, suc, Bool, List, [], ◌∷◌, ◌++◌, length, take, drop, get_or, Option, Some, None, Result, Ok, Err, All, inl, inr, refl, sym, ap, ◌∙◌, subst, append_assoc, add-one}
-use Rattle.std.specs.Prelude.{⊤}
+use Rattle.std.proofs.Common.{◌≡◌, ◌<◌, ◌≤◌, ◌+◌, ℕ, suc, Bool, List, [], ◌∷◌, ◌++◌, length, drop, get_or, Option, Some, None, Result, Ok, Err, All, inl, inr, refl, sym, ap, ◌∙◌, subst, append_assoc, add-one}
 use Rattle.std.proofs.lemmas.List.{append-nil, drop_all, drop_more}
 use Rattle.std.specs.List.{AllByRecursion}
 use Rattle.std.proofs.lemmas.List.Elements.{recursion_from_All, All-drop, All-from_recursion, All-weaker}
@@ -26,7 +25,7 @@ use Rattle.form_module.specs.declared.error.ModuleError.TheVariants as module_er
 use Rattle.form_engine.specs.Answer.{Carries, Stops}
 use Rattle.form_engine.specs.declared.stop.Stop.{Stop}
 use Rattle.form_engine.specs.declared.stop.Stop.TheVariants.{Memory}
-use Rattle.form_engine.specs.Outcome.{Outcome, AreCarriedOut, IsProgramOutcome, behind, done, refused}
+use Rattle.form_engine.specs.Outcome.{Outcome, AreCarriedOut, behind, done, refused}
 use Rattle.form_engine.specs.Printed.{printed_module}
 
 -- the right sides of a sound program are trees

@@ -2,6 +2,7 @@ pub mod Answered
 pub mod Carried
 pub mod Concluded
 pub mod Going
+pub mod Lengths
 pub mod Named
 pub mod Outcomes
 pub mod Printed

@@ -1,17 +1,15 @@
 -- Words and texts have exactly one outcome, and what one says of its status.
-use Rattle.std.proofs.Common.{◌≡◌, ◌≢◌, ◌⊎◌, ℕ, suc, List, [], ◌∷◌, length, Option, Some, None, MatchOption, MatchBool, MatchResult, Result, Ok, Err, true, false, Bool, nat_lt, subst, sym, ap, ◌∙◌, refl, inl, inr}
-use Rattle.form_base.specs.declared.cause.Cause.{Cause}
+use Rattle.std.proofs.Common.{◌≡◌, ◌⊎◌, ℕ, suc, List, [], ◌∷◌, map, Option, Some, None, MatchOption, MatchResult, Result, Ok, Err, subst, sym, ap, ◌∙◌, refl, inl, inr}
 use Rattle.form_base.specs.declared.cause.Cause.TheVariants.{BadSyntax}
-use Rattle.form_base.specs.declared.place.Place.TheVariants.{Run}
+use Rattle.form_base.specs.declared.place.Place.TheVariants.{Line, Run}
 use Rattle.form_base.specs.declared.settings.Settings.{Settings}
 use Rattle.form_base.specs.declared.spot.Spot.{Spot}
-use Rattle.form_base.specs.declared.status.Status.{Status}
-use Rattle.form_base.specs.declared.status.Status.TheVariants.{Done, Usage, Missing, TextTooLong, RefusedText, RefusedRun}
-use Rattle.form_outside.specs.Texts.{Texts, text_of}
+use Rattle.form_base.specs.declared.status.Status.TheVariants.{Usage, Missing, TextTooLong, RefusedText, RefusedRun}
+use Rattle.form_outside.specs.Texts.{Texts}
 use Rattle.form_words.specs.declared.job.Job.{Job}
 use Rattle.form_words.specs.Words.{job_of}
-use Rattle.form_lines.specs.Program.{program_lines}
-use Rattle.form_lines.specs.Text.{PhysicalLine}
+use Rattle.form_preproc.specs.Expansion.{Expansion, IsExpanded, expanded, missing, refusal, refused as stopped, too_long}
+use Rattle.form_stmts.specs.Line.{PlacedLine}
 use Rattle.form_names.specs.Names.{Entry}
 use Rattle.form_ast.specs.declared.statement.Placed.{Placed}
 use Rattle.form_ast.specs.Lawful.{AreLawfulModules}
@@ -25,18 +23,20 @@ use Rattle.form_expand.specs.declared.stored.Stored.{Stored}
 use Rattle.form_module.specs.Module.{Refusal, IsModuleOutcome}
 use Rattle.form_print.specs.Printing.{name_of}
 use Rattle.std.proofs.lemmas.List.Elements.{recursion_from_All}
-use Rattle.form_engine.specs.Outcome.{Outcome, IsOutcome, IsFileOutcome, IsTextOutcome, AreLines, AreStatements, AreCarriedOut, IsProgramOutcome, behind, done, refused, refused_at, longest_text}
+use Rattle.form_engine.specs.Outcome.{Outcome, IsOutcome, IsJobOutcome, IsExpansionOutcome, AreLines, AreStatements, AreCarriedOut, IsProgramOutcome, line_of, behind, refused, refused_at}
 use Rattle.form_engine.specs.Printed.{printed_module}
 use Rattle.form_engine.proofs.Going.{HasOutcomes, program_has, some_carried}
 use Rattle.form_module.specs.Module.{HaveTrees}
 
 -- what is known of the parts of an outcome
 pub record Laws : Type 0 where
-  pub some_reading : (lines : List PhysicalLine) → ((modules : List (List Placed)) × IsProgram lines modules) ⊎ ((spot : Spot) × IsRefused lines spot)
-  pub one_program : (lines : List PhysicalLine) (modules others : List (List Placed)) → IsProgram lines modules → IsProgram lines others → modules ≡ others
-  pub one_refusal : (lines : List PhysicalLine) (spot other : Spot) → IsRefused lines spot → IsRefused lines other → spot ≡ other
-  pub never_both : (lines : List PhysicalLine) (modules : List (List Placed)) (spot : Spot) → IsProgram lines modules → IsRefused lines spot → ⊥
-  pub lawful : (lines : List PhysicalLine) (modules : List (List Placed)) → IsProgram lines modules → AreLawfulModules modules
+  pub some_expansion : (texts : Texts) (file : List ℕ) → (x : Expansion) × IsExpanded texts file x
+  pub one_expansion : (texts : Texts) (file : List ℕ) (x y : Expansion) → IsExpanded texts file x → IsExpanded texts file y → x ≡ y
+  pub some_reading : (lines : List PlacedLine) → ((modules : List (List Placed)) × IsProgram lines modules) ⊎ ((spot : Spot) × IsRefused lines spot)
+  pub one_program : (lines : List PlacedLine) (modules others : List (List Placed)) → IsProgram lines modules → IsProgram lines others → modules ≡ others
+  pub one_refusal : (lines : List PlacedLine) (spot other : Spot) → IsRefused lines spot → IsRefused lines other → spot ≡ other
+  pub never_both : (lines : List PlacedLine) (modules : List (List Placed)) (spot : Spot) → IsProgram lines modules → IsRefused lines spot → ⊥
+  pub lawful : (lines : List PlacedLine) (modules : List (List Placed)) → IsProgram lines modules → AreLawfulModules modules
   pub sound : (modules : List (List Placed)) (checked : Program) → AreLawfulModules modules → program modules ≡ Ok checked → IsSound checked
   pub some_module : HasOutcomes
   pub one_module : (settings : Settings) (statements : List Checked) (standing : List Stored) (outcome other : Result (List Stored) Refusal) →
@@ -44,34 +44,30 @@ pub record Laws : Type 0 where
 
 -- ---- there is one
 
-of_checked : Laws → (job : Job) (modules : List (List Placed)) (r : Result Program text.Refusal) → AreLawfulModules modules → program modules ≡ r →
-    (o : Outcome) × MatchResult r (λ p. IsProgramOutcome job.settings p o) (λ refusal. o ≡ refused_at job.file refusal.cause refusal.spot.line)
-of_checked laws job modules (Ok p) lawful e =
-    some_carried laws.some_module job.settings p.names 1 p.modules [] (recursion_from_All HaveTrees p.modules (program_has p (laws.sound modules p lawful e)))
-of_checked laws job modules (Err refusal) lawful e = (refused_at job.file refusal.cause refusal.spot.line, refl)
+of_checked : Laws → (settings : Settings) (names : List (List ℕ)) (modules : List (List Placed)) (r : Result Program text.Refusal) → AreLawfulModules modules → program modules ≡ r →
+    (o : Outcome) × MatchResult r (λ p. IsProgramOutcome settings p o) (λ bad. o ≡ refused_at names bad.cause bad.spot)
+of_checked laws settings names modules (Ok p) lawful e =
+    some_carried laws.some_module settings p.names 1 p.modules [] (recursion_from_All HaveTrees p.modules (program_has p (laws.sound modules p lawful e)))
+of_checked laws settings names modules (Err bad) lawful e = (refused_at names bad.cause bad.spot, refl)
 
-some_lines : Laws → (job : Job) (lines : List PhysicalLine) → (o : Outcome) × AreLines job lines o
-some_lines laws job lines = elim (laws.some_reading lines) [
-  | inl found ↦ let here = of_checked laws job found.0 (program found.0) (laws.lawful lines found.0 found.1) refl in (here.0, inr (found.0, found.1, here.1))
-  | inr bad ↦ (refused_at job.file BadSyntax bad.0.line, inl (bad.0, bad.1, refl))
+some_lines : Laws → (settings : Settings) (names : List (List ℕ)) (lines : List PlacedLine) → (o : Outcome) × AreLines settings names lines o
+some_lines laws settings names lines = elim (laws.some_reading lines) [
+  | inl found ↦ let here = of_checked laws settings names found.0 (program found.0) (laws.lawful lines found.0 found.1) refl in (here.0, inr (found.0, found.1, here.1))
+  | inr bad ↦ (refused_at names BadSyntax bad.0, inl (bad.0, bad.1, refl))
 ]
 
-some_text : Laws → (job : Job) (r : Result (List PhysicalLine) (Cause × ℕ)) →
-    (o : Outcome) × MatchResult r (λ lines. AreLines job lines o) (λ refusal. o ≡ refused_at job.file refusal.0 refusal.1)
-some_text laws job (Ok lines) = some_lines laws job lines
-some_text laws job (Err refusal) = (refused_at job.file refusal.0 refusal.1, refl)
+some_of_expansion : Laws → (job : Job) (x : Expansion) → (o : Outcome) × IsExpansionOutcome job x o
+some_of_expansion laws job missing = (refused (Missing job.file), refl)
+some_of_expansion laws job (refusal (too_long name)) = (refused (TextTooLong name), refl)
+some_of_expansion laws job (refusal (stopped cause place)) = (refused (RefusedText cause (Line place.file place.line)), refl)
+some_of_expansion laws job (expanded lines names) = some_lines laws job.settings names (map line_of lines)
 
-long_or_not : Laws → (b : Bool) (job : Job) (text : List ℕ) → (o : Outcome) × MatchBool b (o ≡ refused (TextTooLong job.file)) (IsTextOutcome job text o)
-long_or_not laws true job text = (refused (TextTooLong job.file), refl)
-long_or_not laws false job text = some_text laws job (program_lines text)
-
-some_file : Laws → (job : Job) (here : Option (List ℕ)) → (o : Outcome) × IsFileOutcome job here o
-some_file laws job None = (refused (Missing job.file), refl)
-some_file laws job (Some text) = long_or_not laws (nat_lt longest_text (length text)) job text
-
-some_words : Laws → (job : Option Job) (texts : Texts) → (o : Outcome) × MatchOption job (o ≡ refused Usage) (λ job. IsFileOutcome job (text_of texts job.file) o)
+some_words : Laws → (job : Option Job) (texts : Texts) → (o : Outcome) × MatchOption job (o ≡ refused Usage) (λ job. IsJobOutcome texts job o)
 some_words laws None texts = (refused Usage, refl)
-some_words laws (Some job) texts = some_file laws job (text_of texts job.file)
+some_words laws (Some job) texts =
+    let x = laws.some_expansion texts job.file in
+    let o = some_of_expansion laws job x.0 in
+    (o.0, (x.0, x.1, o.1))
 
 pub some_outcome : Laws → (words : List (List ℕ)) (texts : Texts) → (o : Outcome) × IsOutcome words texts o
 some_outcome laws words texts = some_words laws (job_of words) texts
@@ -102,38 +98,30 @@ one_carried laws settings names number (m ∷ ms) standing o p (inr a) (inr b) =
     let rest : a.1 ≡ b.1 = one_carried laws settings names (suc number) ms a.0 a.1 b.1 a.3 (subst (λ (after : List Stored). AreCarriedOut settings names (suc number) ms after b.1) same b.3) in
     a.4 ∙ ap (behind (printed_module names m a.0)) rest ∙ ap (λ after. behind (printed_module names m after) b.1) (sym same) ∙ sym b.4
 
-one_checked : Laws → (job : Job) (r : Result Program text.Refusal) (o p : Outcome) →
-    MatchResult r (λ q. IsProgramOutcome job.settings q o) (λ refusal. o ≡ refused_at job.file refusal.cause refusal.spot.line) →
-    MatchResult r (λ q. IsProgramOutcome job.settings q p) (λ refusal. p ≡ refused_at job.file refusal.cause refusal.spot.line) → o ≡ p
-one_checked laws job (Ok q) o p a b = one_carried laws job.settings q.names 1 q.modules [] o p a b
-one_checked laws job (Err refusal) o p a b = a ∙ sym b
+one_checked : Laws → (settings : Settings) (names : List (List ℕ)) (r : Result Program text.Refusal) (o p : Outcome) →
+    MatchResult r (λ q. IsProgramOutcome settings q o) (λ bad. o ≡ refused_at names bad.cause bad.spot) →
+    MatchResult r (λ q. IsProgramOutcome settings q p) (λ bad. p ≡ refused_at names bad.cause bad.spot) → o ≡ p
+one_checked laws settings names (Ok q) o p a b = one_carried laws settings q.names 1 q.modules [] o p a b
+one_checked laws settings names (Err bad) o p a b = a ∙ sym b
 
-one_lines : Laws → (job : Job) (lines : List PhysicalLine) (o p : Outcome) → AreLines job lines o → AreLines job lines p → o ≡ p
-one_lines laws job lines o p (inl a) (inl b) = a.2 ∙ ap (λ (s : Spot). refused_at job.file BadSyntax s.line) (laws.one_refusal lines a.0 b.0 a.1 b.1) ∙ sym b.2
-one_lines laws job lines o p (inl a) (inr b) = absurd (laws.never_both lines b.0 a.0 b.1 a.1)
-one_lines laws job lines o p (inr a) (inl b) = absurd (laws.never_both lines a.0 b.0 a.1 b.1)
-one_lines laws job lines o p (inr a) (inr b) =
-    one_checked laws job (program a.0) o p a.2 (subst (λ (modules : List (List Placed)). AreStatements job modules p) (sym (laws.one_program lines a.0 b.0 a.1 b.1)) b.2)
+one_lines : Laws → (settings : Settings) (names : List (List ℕ)) (lines : List PlacedLine) (o p : Outcome) → AreLines settings names lines o → AreLines settings names lines p → o ≡ p
+one_lines laws settings names lines o p (inl a) (inl b) = a.2 ∙ ap (refused_at names BadSyntax) (laws.one_refusal lines a.0 b.0 a.1 b.1) ∙ sym b.2
+one_lines laws settings names lines o p (inl a) (inr b) = absurd (laws.never_both lines b.0 a.0 b.1 a.1)
+one_lines laws settings names lines o p (inr a) (inl b) = absurd (laws.never_both lines a.0 b.0 a.1 b.1)
+one_lines laws settings names lines o p (inr a) (inr b) =
+    one_checked laws settings names (program a.0) o p a.2 (subst (λ (modules : List (List Placed)). AreStatements settings names modules p) (sym (laws.one_program lines a.0 b.0 a.1 b.1)) b.2)
 
-one_text : Laws → (job : Job) (r : Result (List PhysicalLine) (Cause × ℕ)) (o p : Outcome) →
-    MatchResult r (λ lines. AreLines job lines o) (λ refusal. o ≡ refused_at job.file refusal.0 refusal.1) →
-    MatchResult r (λ lines. AreLines job lines p) (λ refusal. p ≡ refused_at job.file refusal.0 refusal.1) → o ≡ p
-one_text laws job (Ok lines) o p a b = one_lines laws job lines o p a b
-one_text laws job (Err refusal) o p a b = a ∙ sym b
+one_of_expansion : Laws → (job : Job) (x : Expansion) (o p : Outcome) → IsExpansionOutcome job x o → IsExpansionOutcome job x p → o ≡ p
+one_of_expansion laws job missing o p a b = a ∙ sym b
+one_of_expansion laws job (refusal (too_long name)) o p a b = a ∙ sym b
+one_of_expansion laws job (refusal (stopped cause place)) o p a b = a ∙ sym b
+one_of_expansion laws job (expanded lines names) o p a b = one_lines laws job.settings names (map line_of lines) o p a b
 
-one_by_length : Laws → (long : Bool) (job : Job) (text : List ℕ) (o p : Outcome) →
-    MatchBool long (o ≡ refused (TextTooLong job.file)) (IsTextOutcome job text o) → MatchBool long (p ≡ refused (TextTooLong job.file)) (IsTextOutcome job text p) → o ≡ p
-one_by_length laws true job text o p a b = a ∙ sym b
-one_by_length laws false job text o p a b = one_text laws job (program_lines text) o p a b
-
-one_file : Laws → (job : Job) (here : Option (List ℕ)) (o p : Outcome) → IsFileOutcome job here o → IsFileOutcome job here p → o ≡ p
-one_file laws job None o p a b = a ∙ sym b
-one_file laws job (Some text) o p a b = one_by_length laws (nat_lt longest_text (length text)) job text o p a b
-
-one_words : Laws → (job : Option Job) (texts : Texts) (o p : Outcome) → MatchOption job (o ≡ refused Usage) (λ job. IsFileOutcome job (text_of texts job.file) o) →
-    MatchOption job (p ≡ refused Usage) (λ job. IsFileOutcome job (text_of texts job.file) p) → o ≡ p
+one_words : Laws → (job : Option Job) (texts : Texts) (o p : Outcome) → MatchOption job (o ≡ refused Usage) (λ job. IsJobOutcome texts job o) →
+    MatchOption job (p ≡ refused Usage) (λ job. IsJobOutcome texts job p) → o ≡ p
 one_words laws None texts o p a b = a ∙ sym b
-one_words laws (Some job) texts o p a b = one_file laws job (text_of texts job.file) o p a b
+one_words laws (Some job) texts o p a b =
+    one_of_expansion laws job b.0 o p (subst (λ (x : Expansion). IsExpansionOutcome job x o) (laws.one_expansion texts job.file a.0 b.0 a.1 b.1) a.2) b.2
 
 pub unique_outcome : Laws → (words : List (List ℕ)) (texts : Texts) (o p : Outcome) → IsOutcome words texts o → IsOutcome words texts p → o ≡ p
 unique_outcome laws words texts o p a b = one_words laws (job_of words) texts o p a b

@@ -1,6 +1,5 @@
 -- The outcome of a call: what it writes, and how it ends.
-use Rattle.std.specs.Prelude.{◌≡◌, ◌⊎◌, ℕ, suc, ◌∷◌, [], ◌++◌, List, length, map, flat_map, Option, Some, None, Result, Ok, Err, Bool, nat_lt, if◌then◌else◌, MatchBool, MatchOption, MatchResult}
-use Rattle.std.specs.List.{list_any}
+use Rattle.std.specs.Prelude.{◌≡◌, ◌⊎◌, ℕ, suc, ◌∷◌, [], ◌++◌, List, map, slice_index_or, Ok, Err, MatchOption, MatchResult}
 use Rattle.form_base.specs.declared.cause.Cause.{Cause}
 use Rattle.form_base.specs.declared.cause.Cause.TheVariants.{BadSyntax}
 use Rattle.form_base.specs.declared.place.Place.TheVariants.{Line, Run}
@@ -12,27 +11,23 @@ use Rattle.form_base.specs.Status.{status_text}
 use Rattle.form_outside.specs.Texts as library
 use Rattle.form_words.specs.declared.job.Job.{Job}
 use Rattle.form_words.specs.Words.{job_of}
-use Rattle.form_lines.specs.Program.{program_lines}
-use Rattle.form_lines.specs.Text.{PhysicalLine}
+use Rattle.form_preproc.specs.Expansion.{Expansion, expanded, missing, refusal, refused as stopped, too_long, IsExpanded}
+use Rattle.form_preproc.specs.declared.handed.Handed.{Handed}
 use Rattle.form_names.specs.Names.{Entry}
 use Rattle.form_ast.specs.declared.statement.Placed.{Placed}
+use Rattle.form_stmts.specs.Line.{PlacedLine}
 use Rattle.form_stmts.specs.Program.{IsProgram, IsRefused}
 use Rattle.form_check.specs.declared.checked.Checked.{Checked}
 use Rattle.form_check.specs.Checking.{program}
 use Rattle.form_check.specs.Program.{Program}
-use Rattle.form_check.specs.Refusal as text
 use Rattle.form_expand.specs.declared.stored.Stored.{Stored}
 use Rattle.form_module.specs.Module.{Refusal, IsModuleOutcome}
-use Rattle.form_print.specs.Printing.{name_of, printed}
+use Rattle.form_print.specs.Printing.{name_of}
 use Rattle.form_engine.specs.Printed.{printed_module}
 
 pub record Outcome : Type 0 where
   pub bytes : List ℕ
   pub status : Status
-
--- how many bytes a text may have
-abbrev pub longest_text : ℕ
-longest_text = 16777216
 
 -- a refusal: its line
 abbrev pub refused : Status → Outcome
@@ -59,33 +54,40 @@ AreCarriedOut settings names number (m ∷ ms) standing outcome =
 abbrev pub IsProgramOutcome : Settings → Program → Outcome → Type 0
 IsProgramOutcome settings p outcome = AreCarriedOut settings p.names 1 p.modules [] outcome
 
--- a refusal of the text of this name
-abbrev pub refused_at : List ℕ → Cause → ℕ → Outcome
-refused_at file cause line = refused (RefusedText cause (Line file line))
+-- a line that is handed on, as one of a program
+abbrev pub line_of : Handed → PlacedLine
+line_of handed = record { spot = handed.spot; text = handed.text }
+
+-- the name of the text of a number
+abbrev pub name_at : List (List ℕ) → ℕ → List ℕ
+name_at names number = slice_index_or names number []
+
+-- a refusal at a spot, where the texts have these names
+abbrev pub refused_at : List (List ℕ) → Cause → Spot → Outcome
+refused_at names cause spot = refused (RefusedText cause (Line (name_at names spot.text) spot.line))
 
 -- the outcome of statements: the first refusal in the order of the text, or that of the program
-abbrev pub AreStatements : Job → List (List Placed) → Outcome → Type 0
-AreStatements job modules outcome =
-    MatchResult (program modules) (λ p. IsProgramOutcome job.settings p outcome) (λ refusal. outcome ≡ refused_at job.file refusal.cause refusal.spot.line)
+abbrev pub AreStatements : Settings → List (List ℕ) → List (List Placed) → Outcome → Type 0
+AreStatements settings names modules outcome =
+    MatchResult (program modules) (λ p. IsProgramOutcome settings p outcome) (λ refusal. outcome ≡ refused_at names refusal.cause refusal.spot)
 
 -- the outcome of lines: BadSyntax at the first statement outside the grammar, or that of the statements
-abbrev pub AreLines : Job → List PhysicalLine → Outcome → Type 0
-AreLines job lines outcome =
-    ((spot : Spot) × IsRefused lines spot × (outcome ≡ refused_at job.file BadSyntax spot.line))
-    ⊎ ((modules : List (List Placed)) × IsProgram lines modules × AreStatements job modules outcome)
+abbrev pub AreLines : Settings → List (List ℕ) → List PlacedLine → Outcome → Type 0
+AreLines settings names lines outcome =
+    ((spot : Spot) × IsRefused lines spot × (outcome ≡ refused_at names BadSyntax spot))
+    ⊎ ((modules : List (List Placed)) × IsProgram lines modules × AreStatements settings names modules outcome)
 
--- the outcome of a text: the refusal of a line, or that of its lines
-abbrev pub IsTextOutcome : Job → List ℕ → Outcome → Type 0
-IsTextOutcome job text outcome =
-    MatchResult (program_lines text) (λ lines. AreLines job lines outcome) (λ refusal. outcome ≡ refused_at job.file refusal.0 refusal.1)
+-- the outcome of what the preprocessor makes of FILE: its refusal, or that of the lines that it hands on
+abbrev pub IsExpansionOutcome : Job → Expansion → Outcome → Type 0
+IsExpansionOutcome job missing outcome = outcome ≡ refused (Missing job.file)
+IsExpansionOutcome job (refusal (too_long name)) outcome = outcome ≡ refused (TextTooLong name)
+IsExpansionOutcome job (refusal (stopped cause place)) outcome = outcome ≡ refused (RefusedText cause (Line place.file place.line))
+IsExpansionOutcome job (expanded lines names) outcome = AreLines job.settings names (map line_of lines) outcome
 
--- the outcome where this stands under the name of FILE
-abbrev pub IsFileOutcome : Job → Option (List ℕ) → Outcome → Type 0
-IsFileOutcome job None outcome = outcome ≡ refused (Missing job.file)
-IsFileOutcome job (Some text) outcome =
-    MatchBool (nat_lt longest_text (length text)) (outcome ≡ refused (TextTooLong job.file)) (IsTextOutcome job text outcome)
+-- the outcome of a job over a library's texts
+abbrev pub IsJobOutcome : library.Texts → Job → Outcome → Type 0
+IsJobOutcome texts job outcome = (x : Expansion) × IsExpanded texts job.file x × IsExpansionOutcome job x outcome
 
 -- The outcome of words and a library's texts.
 abbrev pub IsOutcome : List (List ℕ) → library.Texts → Outcome → Type 0
-IsOutcome words texts outcome =
-    MatchOption (job_of words) (outcome ≡ refused Usage) (λ job. IsFileOutcome job (library.text_of texts job.file) outcome)
+IsOutcome words texts outcome = MatchOption (job_of words) (outcome ≡ refused Usage) (λ job. IsJobOutcome texts job outcome)

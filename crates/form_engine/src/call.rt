@@ -8,7 +8,8 @@ ghost use Rattle.form_outside.specs.Runs.{HasNoLiveRun};
 ghost use Rattle.form_outside.specs.Texts.{text_of};
 ghost use Rattle.form_engine.specs.Answer.{Carries, nothing_more};
 ghost use Rattle.form_engine.specs.Call.{bytes_of_words, IsStop, HasStoreRisen, FollowsOutcome, IsCarriedOut};
-ghost use Rattle.form_engine.specs.Outcome.{Outcome, IsOutcome, refused, longest_text};
+ghost use Rattle.form_preproc.specs.Expansion.{longest_text};
+ghost use Rattle.form_engine.specs.Outcome.{Outcome, IsOutcome, refused};
 ghost use Rattle.form_engine.specs.Stop.{ending};
 ghost use Rattle.form_engine.specs.Words.{file_of};
 
@@ -62,10 +63,8 @@ pub fn tform<R: Threads + Wait, L: Library, O: Sink, S: Store + Send, G: Gate + 
         (result ≡ Usage) ⊎ ((result ≡ SinkFault) ⊎ (result ≡ OutOfMemory)) }
     ensures untouched { file_of (bytes_of_words words.now) ≡ None → library.new ≡ library.old }
 
-    // A text that is missing or too long is the one that the words name.
+    // A text that is missing is the one that the words name.
     ensures missing_file { (name : List ℕ) → result ≡ Missing name → file_of (bytes_of_words words.now) ≡ Some name }
-    ensures too_long_file { (name : List ℕ) → result ≡ TextTooLong name →
-        file_of (bytes_of_words words.now) ≡ Some name }
 
     // Where the library tells its texts, what is said of them is so, whatever fails.
     ensures missing { IfSome (L.texts library.old) (λ texts.
@@ -73,6 +72,9 @@ pub fn tform<R: Threads + Wait, L: Library, O: Sink, S: Store + Send, G: Gate + 
     ensures too_long { IfSome (L.texts library.old) (λ texts.
         (name : List ℕ) → result ≡ TextTooLong name →
         IsSomeAnd (text_of texts name) (λ text. longest_text < length text)) }
+    ensures too_long_text { IfSome (L.texts library.old) (λ texts.
+        (name : List ℕ) → result ≡ TextTooLong name →
+        IsOutcome (bytes_of_words words.now) texts (refused (TextTooLong name))) }
     ensures refused_text { IfSome (L.texts library.old) (λ texts.
         (cause : Cause) (place : Place) → result ≡ RefusedText cause place →
         IsOutcome (bytes_of_words words.now) texts (refused (RefusedText cause place))) }
@@ -134,8 +136,6 @@ fn run<L: Library, O: Sink>(
     ensures sink_fault { result ≡ Err Stop.Sink → O.faults out.old < O.faults out.new }
     ensures untouched { file_of (bytes_of_words words.now) ≡ None → library.new ≡ library.old }
     ensures missing_file { IfOk result (λ status. (name : List ℕ) → status ≡ Missing name →
-        file_of (bytes_of_words words.now) ≡ Some name) }
-    ensures too_long_file { IfOk result (λ status. (name : List ℕ) → status ≡ TextTooLong name →
         file_of (bytes_of_words words.now) ≡ Some name) }
     ensures library_unrisen { result ≢ Err Stop.Library → L.faults library.new ≡ L.faults library.old }
     ensures sink_unrisen { result ≢ Err Stop.Sink → O.faults out.new ≡ O.faults out.old }

@@ -1,27 +1,26 @@
-ghost use Rattle.std.specs.Prelude.{◌≡◌, ◌≢◌, ◌≤◌, ◌⊎◌, ℕ, List, length, Some, None, Ok, Err, IfOk, IfSome};
+ghost use Rattle.std.specs.Prelude.{◌≡◌, ◌≢◌, ◌≤◌, ◌⊎◌, ℕ, List, map, Some, None, Ok, Err, All, IfOk, IfSome};
 ghost use Rattle.form_base.specs.declared.place.Place.TheVariants as places;
-ghost use Rattle.form_base.specs.declared.status.Status.TheVariants.{Usage, Missing, TextTooLong, RefusedText};
+ghost use Rattle.form_base.specs.declared.status.Status.TheVariants.{Usage, Missing, RefusedText};
 ghost use Rattle.form_ast.specs.Lawful.{AreLawfulModules};
+ghost use Rattle.form_lines.specs.Text.{IsPlain};
 ghost use Rattle.form_outside.specs.Faults.{HasRisen};
-ghost use Rattle.form_outside.specs.Texts.{text_of};
+ghost use Rattle.form_outside.specs.Texts.{Texts};
+ghost use Rattle.form_preproc.specs.Answer.{IsAnswer};
 ghost use Rattle.form_engine.specs.Answer.{IsAnswerOutcome, IsSoundAnswer, IsEarly, IsOfText};
 ghost use Rattle.form_engine.specs.Call.{bytes_of_words};
-ghost use Rattle.form_engine.specs.Outcome.{Outcome, IsOutcome, IsFileOutcome, IsTextOutcome, AreLines, AreStatements, longest_text};
+ghost use Rattle.form_engine.specs.Outcome.{Outcome, IsOutcome, IsJobOutcome, AreLines, AreStatements, line_of, name_at as name_at_of};
 ghost use Rattle.form_engine.specs.Words.{file_of};
 
 use crate::answer::Answer;
 use crate::stop::Stop;
 use form_ast::Module as Statements;
-use form_base::{Cause, Name, Place, Status};
+use form_base::{Cause, Name, Place, Settings, Spot, Status};
 use form_check::{CheckError, check};
-use form_lines::{Line, TextError, read_lines};
-use form_outside::{Library, LibraryErr};
-use form_stmts::{ProgramError, read_program};
+use form_outside::Library;
+use form_preproc::{Expanded, FileError, Handed, expand};
+use form_stmts::{Line, ProgramError, read_program};
 use form_words::{Job, WordsError, read_words};
 use std::alloc::{AllocError, Global};
-
-/// The most bytes that a text may have.
-const LONGEST_TEXT: u64 = 16_777_216;
 
 /// What a call with these words is to do over this library.
 pub fn decide<L: Library>(alloc: Global, words: &[String], library: &mut L) -> Result<Answer, Stop>
@@ -33,8 +32,6 @@ pub fn decide<L: Library>(alloc: Global, words: &[String], library: &mut L) -> R
         (result ≡ Ok (Answer.Refused Usage)) ⊎ (result ≡ Err Stop.Memory) }
     ensures untouched { file_of (bytes_of_words words.now) ≡ None → library.new ≡ library.old }
     ensures missing { (name : List ℕ) → result ≡ Ok (Answer.Refused (Missing name)) →
-        file_of (bytes_of_words words.now) ≡ Some name }
-    ensures too_long { (name : List ℕ) → result ≡ Ok (Answer.Refused (TextTooLong name)) →
         file_of (bytes_of_words words.now) ≡ Some name }
     ensures early { IfOk result IsEarly }
     ensures failed { result ≡ Err Stop.Library → HasRisen (L.faults library.old) (L.faults library.new) }
@@ -53,11 +50,10 @@ pub fn decide<L: Library>(alloc: Global, words: &[String], library: &mut L) -> R
 /// What a job is to do over this library.
 fn decide_job<L: Library>(alloc: Global, job: Job, library: &mut L) -> Result<Answer, Stop>
     ensures outcome { IfOk result (λ answer. IfSome (L.texts library.old) (λ texts.
-        (outcome : Outcome) → IsAnswerOutcome answer outcome → IsFileOutcome job (text_of texts job.file) outcome)) }
+        (outcome : Outcome) → IsAnswerOutcome answer outcome → IsJobOutcome texts job outcome)) }
     ensures sound { IfOk result IsSoundAnswer }
     ensures never_usage { result ≢ Ok (Answer.Refused Usage) }
     ensures missing { (name : List ℕ) → result ≡ Ok (Answer.Refused (Missing name)) → job.file ≡ name }
-    ensures too_long { (name : List ℕ) → result ≡ Ok (Answer.Refused (TextTooLong name)) → job.file ≡ name }
     ensures early { IfOk result IsEarly }
     ensures failed { result ≡ Err Stop.Library → HasRisen (L.faults library.old) (L.faults library.new) }
     ensures not_risen { result ≢ Err Stop.Library → L.faults library.new ≡ L.faults library.old }
@@ -65,62 +61,103 @@ fn decide_job<L: Library>(alloc: Global, job: Job, library: &mut L) -> Result<An
     ensures never_falls { L.faults library.old ≤ L.faults library.new }
     ensures same { L.texts library.new ≡ L.texts library.old }
 {
-    match library.fetch(alloc, job.file.as_str(), LONGEST_TEXT) {
-        Ok(Some(text)) => Ok(answer_to(alloc, job, &text)?),
-        Ok(None) => Ok(Answer::Refused(Status::Missing(job.file))),
-        Err(LibraryErr::TooLong) => Ok(Answer::Refused(Status::TextTooLong(job.file))),
-        Err(LibraryErr::Failed) => Err(Stop::Library),
-        Err(LibraryErr::Memory) => Err(Stop::Memory),
+    let expanded = expand(alloc, library, &job.file);
+    answer_to(alloc, job, expanded)
+}
+
+/// What is to be done for what the preprocessor answers.
+fn answer_to(alloc: Global, job: Job, expanded: Result<Expanded, FileError>) -> Result<Answer, Stop>
+    requires { IfOk expanded (λ x. All (λ line. IsPlain line.text) x.lines) }
+    ensures outcome { IfOk result (λ answer. (texts : Texts) → IsAnswer texts job.file expanded →
+        (outcome : Outcome) → IsAnswerOutcome answer outcome → IsJobOutcome texts job outcome) }
+    ensures sound { IfOk result IsSoundAnswer }
+    ensures never_usage { result ≢ Ok (Answer.Refused Usage) }
+    ensures missing { (name : List ℕ) → result ≡ Ok (Answer.Refused (Missing name)) → job.file ≡ name }
+    ensures early { IfOk result IsEarly }
+    ensures failed { result ≡ Err Stop.Library → expanded ≡ Err FileError.Library }
+    ensures told { expanded ≡ Err FileError.Library → result ≡ Err Stop.Library }
+    ensures never_sink { result ≢ Err Stop.Sink }
+{
+    match expanded {
+        Ok(expanded) => Ok(answer_to_lines(alloc, job.settings, &expanded)?),
+        Err(FileError::Missing) => Ok(Answer::Refused(Status::Missing(job.file))),
+        Err(FileError::TooLong(name)) => Ok(Answer::Refused(Status::TextTooLong(name))),
+        Err(FileError::Refused(cause, file, line)) => Ok(refused_at(file, cause, line)),
+        Err(FileError::Library) => Err(Stop::Library),
+        Err(FileError::Memory) => Err(Stop::Memory),
     }
 }
 
-/// What is to be done for a text.
-fn answer_to(alloc: Global, job: Job, text: &[u8]) -> Result<Answer, AllocError>
-    requires { length text.now ≤ longest_text }
-    ensures outcome { IfOk result (λ answer. (outcome : Outcome) →
-        IsAnswerOutcome answer outcome → IsTextOutcome job text.now outcome) }
+/// What is to be done for the lines that are handed on.
+fn answer_to_lines(
+    alloc: Global,
+    settings: Settings,
+    expanded: &Expanded,
+) -> Result<Answer, AllocError>
+    requires { All (λ line. IsPlain line.text) expanded.now.lines }
+    ensures outcome { IfOk result (λ answer. (outcome : Outcome) → IsAnswerOutcome answer outcome →
+        AreLines settings expanded.now.names (map line_of expanded.now.lines) outcome) }
     ensures sound { IfOk result IsSoundAnswer }
     ensures of_text { IfOk result IsOfText }
 {
-    match read_lines(alloc, text) {
-        Ok(lines) => answer_to_lines(alloc, job, lines),
-        Err(TextError::Refused(cause, line)) => Ok(refused_at(job.file, cause, line)),
-        Err(TextError::Memory) => Err(AllocError),
-    }
-}
-
-/// What is to be done for the lines of a text.
-fn answer_to_lines(alloc: Global, job: Job, lines: Vec<Line>) -> Result<Answer, AllocError>
-    ensures outcome { IfOk result (λ answer. (outcome : Outcome) →
-        IsAnswerOutcome answer outcome → AreLines job lines.items outcome) }
-    ensures sound { IfOk result IsSoundAnswer }
-    ensures of_text { IfOk result IsOfText }
-{
+    let names = expanded.names.as_slice();
+    let lines = program_lines(alloc, expanded.lines.as_slice())?;
     match read_program(alloc, lines) {
-        Ok(modules) => answer_to_statements(alloc, job, &modules),
-        Err(ProgramError::BadSyntax(spot)) => {
-            Ok(refused_at(job.file, Cause::BadSyntax, spot.line))
-        }
+        Ok(modules) => answer_to_statements(alloc, settings, names, &modules),
+        Err(ProgramError::BadSyntax(spot)) => refused_in(alloc, names, Cause::BadSyntax, spot),
         Err(ProgramError::Memory) => Err(AllocError),
     }
 }
 
-/// What is to be done for statements.
+/// The lines that are handed on, as those of a program.
+fn program_lines<'a>(alloc: Global, handed: &'a [Handed]) -> Result<Vec<Line<'a>>, AllocError>
+    requires { All (λ line. IsPlain line.text) handed.now }
+    ensures { IfOk result (λ lines. lines.items ≡ map line_of handed.now) }
+{
+    let mut lines = Vec::with_capacity(alloc, handed.len())?;
+    for line in handed {
+        lines.push(Line::new(line.spot, line.text.as_slice()))?;
+    }
+    Ok(lines)
+}
+
+/// What is to be done for statements of texts with these names.
 fn answer_to_statements(
     alloc: Global,
-    job: Job,
+    settings: Settings,
+    names: &[Name],
     modules: &[Statements],
 ) -> Result<Answer, AllocError>
     requires { AreLawfulModules modules.now }
     ensures outcome { IfOk result (λ answer. (outcome : Outcome) →
-        IsAnswerOutcome answer outcome → AreStatements job modules.now outcome) }
+        IsAnswerOutcome answer outcome → AreStatements settings names.now modules.now outcome) }
     ensures sound { IfOk result IsSoundAnswer }
     ensures of_text { IfOk result IsOfText }
 {
     match check(alloc, modules) {
-        Ok(program) => Ok(Answer::Runs(job.settings, program)),
-        Err(CheckError::Refused(cause, spot)) => Ok(refused_at(job.file, cause, spot.line)),
+        Ok(program) => Ok(Answer::Runs(settings, program)),
+        Err(CheckError::Refused(cause, spot)) => refused_in(alloc, names, cause, spot),
         Err(CheckError::Memory) => Err(AllocError),
+    }
+}
+
+/// The refusal at a spot of texts with these names.
+fn refused_in(alloc: Global, names: &[Name], cause: Cause, spot: Spot) -> Result<Answer, AllocError>
+    ensures { IfOk result (λ answer. answer ≡ Answer.Refused (RefusedText cause (places.Line (name_at_of names.now spot.text) spot.line))) }
+{
+    let name = Name::new(alloc, name_at(names, spot.text))?;
+    Ok(refused_at(name, cause, spot.line))
+}
+
+/// The name of the text of a number.
+fn name_at(names: &[Name], number: u32) -> &str
+    ensures { result.now ≡ name_at_of names.now number }
+{
+    let number = number as usize;
+    if number < names.len() {
+        names[number].as_str()
+    } else {
+        ""
     }
 }
 

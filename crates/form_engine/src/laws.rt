@@ -11,6 +11,7 @@ pub fn one_outcome()
     ensures unique { (words : List (List ℕ)) (texts : Texts) (outcome other : Outcome) →
         IsOutcome words texts outcome → IsOutcome words texts other → outcome ≡ other }
 {
+    form_preproc::laws::one_expansion();
     form_stmts::laws::one_reading();
     form_stmts::laws::right_sides_are_lawful();
     form_check::laws::checked_programs_are_sound();

@@ -1,5 +1,5 @@
 -- Reading a sum behind what was read of it before.
-use Rattle.std.proofs.Common.{◌≡◌, ℕ, zero, suc, ◌<◌, ◌≤◌, Bool, true, false, ltb, ◌&&◌, List, [], ◌∷◌, ◌++◌, length, drop, refl, sym, ap, subst, ◌∙◌, arith, lt-ltb}
+use Rattle.std.proofs.Common.{◌≡◌, ℕ, Bool, true, false, List, [], ◌∷◌, refl, sym, ap, ◌∙◌, arith}
 use Rattle.form_tree.specs.declared.tree.Link.{Link}
 use Rattle.form_tree.specs.declared.tree.Link.TheVariants as links
 use Rattle.form_tree.specs.declared.tree.Piece.{Piece}
@@ -7,7 +7,7 @@ use Rattle.form_tree.specs.declared.tree.Piece.TheVariants as pieces
 use Rattle.form_expand.specs.declared.stored.Stored.{Stored}
 use Rattle.form_expand.specs.Left.{row}
 use Rattle.form_expand.specs.Listing.{Listing, nothing, limited, followed, powers, signed}
-use Rattle.form_expand.specs.Reading.{Part, Reading, fresh, closed, begun, linked, with_factor, with_piece, beginning, opening, closing, fed, outermost, read_from, list_of_pieces, begins, begins_product}
+use Rattle.form_expand.specs.Reading.{Part, Reading, fresh, closed, linked, with_factor, with_piece, fed, outermost, read_from, list_of_pieces, begins, begins_product}
 use Rattle.std.specs.Prelude.{None}
 use Rattle.form_expand.specs.Numbers.{number_list, symbol_list}
 use Rattle.form_expand.specs.Stored.{terms_of}
@@ -96,7 +96,7 @@ module _ (all : List Stored) (before : Listing) where
   max_fed top (p ∷ []) (pieces.Close power) = refl
   max_fed top (p ∷ q ∷ ps) (pieces.Close power) = refl
 
-  read_behind : (top : Part) (outer : List Part) (rest : List Piece)
+  pub read_behind : (top : Part) (outer : List Part) (rest : List Piece)
       → read_from all (reading_behind top outer) rest ≡ limited (outermost top outer).max (followed before (read_from all (record { top = top; outer = outer }) rest))
   unfolding read_from
   read_behind top outer [] = ap closed (outermost_behind top outer) ∙ closed_behind (outermost top outer)

@@ -1,6 +1,5 @@
 -- Keeping the terms of a list that is made.
 use Rattle.std.proofs.Common.{◌≡◌, ℕ, ◌≤◌, false, List, [], ◌∷◌, ◌++◌, length, refl, ap, ◌∙◌}
-use Rattle.std.specs.Prelude.{None}
 use Rattle.form_term.specs.declared.monomial.Monomial.{Monomial}
 use Rattle.form_expand.specs.declared.parenthesis.Mode.{Mode}
 use Rattle.form_expand.specs.declared.parenthesis.Mode.TheVariants.{Keeps, Makes, Kept}

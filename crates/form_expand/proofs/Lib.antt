@@ -3,6 +3,7 @@ pub mod Keeping
 pub mod Levels
 pub mod Listings
 pub mod Literals
+mod LiteralSums
 pub mod Lookups
 pub mod NumberLists
 pub mod Parenthesized

@@ -1,13 +1,13 @@
 -- Equations of lists of terms.
-use Rattle.std.proofs.Common.{◌≡◌, ℕ, zero, suc, ◌+◌, ◌-◌, ◌<◌, ◌≤◌, Bool, true, false, cond, ltb, List, [], ◌∷◌, ◌++◌, length, take, map, refl, sym, ap, ◌∙◌, arith, rules, append_assoc, append-nil, le-ltb, lt-ltb}
+use Rattle.std.proofs.Common.{◌≡◌, ℕ, zero, suc, ◌<◌, ◌≤◌, Bool, true, false, ltb, List, [], ◌∷◌, ◌++◌, length, take, refl, sym, ap, ◌∙◌, arith, append_assoc, append-nil, le-ltb, lt-ltb}
 use Rattle.std.proofs.lemmas.Bool.{ltb-true, ltb-false}
 use Rattle.std.proofs.Math.Seq.{take-append_seam, take-length}
 use Rattle.std.proofs.lemmas.List.{length-take, length-append, length-map, take-append-le}
-use Rattle.std.specs.Prelude.{Option, Some, None, Result, Ok, Err}
+use Rattle.std.specs.Prelude.{Option, Some, None}
 use Rattle.form_base.specs.declared.cause.Cause.{Cause}
 use Rattle.form_base.specs.declared.cause.Cause.TheVariants.{ExpandLimit}
 use Rattle.form_term.specs.declared.monomial.Monomial.{Monomial}
-use Rattle.form_term.specs.Monomial.{unit, negated}
+use Rattle.form_term.specs.Monomial.{unit}
 use Rattle.form_normal.specs.Product.{product_of}
 use Rattle.form_expand.specs.Listing.{Listing, nothing, single, refusal, before, before_by, limited, followed_at, followed, times_each, times, pairs_each, pairs, powers, signed, with_sign}
 

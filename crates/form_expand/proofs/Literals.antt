@@ -1,5 +1,5 @@
 -- Products of numbers and symbols, read into one term.
-use Rattle.std.proofs.Common.{◌≡◌, ℕ, zero, suc, ◌+◌, ◌<◌, ◌≤◌, Bool, true, false, List, [], ◌∷◌, ◌++◌, length, drop, refl, sym, ap, subst, ◌∙◌, arith, lt-ltb}
+use Rattle.std.proofs.Common.{◌≡◌, ℕ, zero, suc, ◌+◌, ◌<◌, ◌≤◌, Bool, true, false, List, [], ◌∷◌, ◌++◌, length, drop, refl, sym, ap, subst, ◌∙◌, arith}
 use Rattle.std.specs.Prelude.{None, Result, Ok}
 use Rattle.std.proofs.lemmas.List.{length-append, drop_all}
 use Rattle.form_base.specs.declared.cause.Cause.{Cause}
@@ -14,11 +14,11 @@ use Rattle.form_tree.specs.declared.tree.Piece.TheVariants as pieces
 use Rattle.form_expand.specs.declared.literal.Literal.{Literal}
 use Rattle.form_expand.specs.declared.stored.Stored.{Stored}
 use Rattle.form_expand.specs.Left.{row, row_behind}
-use Rattle.form_expand.specs.Listing.{Listing, nothing, single, refusal, before, before_by, limited, followed, times, pairs, powers, signed}
+use Rattle.form_expand.specs.Listing.{Listing, nothing, single, before_by, limited, followed, pairs, powers, signed}
 use Rattle.form_expand.specs.Literals.{IsLiteral, IsTaken, IsTimes, sign_behind}
 use Rattle.form_expand.specs.Numbers.{number_list, symbol_list}
 use Rattle.form_expand.specs.Readers.{EndsProduct, in_product}
-use Rattle.form_expand.specs.Reading.{Part, Reading, fresh, closed, linked, with_factor, with_piece, fed, read_from, list_of_pieces, begins, begins_product}
+use Rattle.form_expand.specs.Reading.{Part, closed, linked, with_factor, with_piece, fed, read_from, list_of_pieces, begins, begins_product}
 use Rattle.form_expand.proofs.Behind.{read_ends}
 use Rattle.form_expand.proofs.Listings.{limited_within, limited_none, limited_refusal, limited_nothing, limited_again, followed_nothing, followed_last, times_before, times_end, pairs_before, pairs_nothing, pairs_refusal}
 use Rattle.form_expand.proofs.Products.{row_push}
@@ -122,10 +122,11 @@ module _ (max : ℕ) (all : List Stored) where
   one_row [] m some one = absurd (omega arith)
   one_row (l ∷ ls) m some one = one
 
-  literal_from : (ps : List Piece) (l : Literal) (read end : ℕ) (h : IsReadTo ps l read) → 0 < read → end ≤ length ps → drop read ps ≡ drop end ps → EndsProduct (drop end ps) → IsLiteral max all ps l end
-  literal_from ps l read end h some within same ends =
+  literal_from : (ps : List Piece) (l : Literal) (read end : ℕ) (h : IsReadTo ps l read) → 0 < read → 0 < end → end ≤ length ps → drop read ps ≡ drop end ps → EndsProduct (drop end ps) → IsLiteral max all ps l end
+  literal_from ps l read end h some begun within same ends =
       let one = one_row h.factors l.term (h.some some) h.one in
       record {
+        some = begun;
         within = within;
         list = h.list
             ∙ ap (read_from all (in_product max l.is_minus h.factors)) same
@@ -136,10 +137,10 @@ module _ (max : ℕ) (all : List Stored) where
   -- up to a further product
   pub literal_before : (ps : List Piece) (l : Literal) (read : ℕ) (piece : Piece) (more : List Piece) → IsReadTo ps l read → 0 < read → read ≤ length ps
       → drop read ps ≡ piece ∷ more → begins_product piece ≡ true → IsLiteral max all ps l read
-  literal_before ps l read piece more h some within rest begins = literal_from ps l read read h some within refl (subst EndsProduct (sym rest) begins)
+  literal_before ps l read piece more h some within rest begins = literal_from ps l read read h some some within refl (subst EndsProduct (sym rest) begins)
 
   -- to the end
-  pub literal_last : (ps : List Piece) (l : Literal) (read : ℕ) → IsReadTo ps l read → 0 < read → length ps ≤ read → IsLiteral max all ps l (length ps)
+  pub literal_last : (ps : List Piece) (l : Literal) (read : ℕ) → IsReadTo ps l read → 0 < length ps → length ps ≤ read → IsLiteral max all ps l (length ps)
   literal_last ps l read h some past =
       let none : drop (length ps) ps ≡ [] = drop_all (length ps) ps (omega arith) in
-      literal_from ps l read (length ps) h some (omega arith) (drop_all read ps past ∙ sym none) (subst EndsProduct (sym none) tt)
+      literal_from ps l read (length ps) h (omega arith) some (omega arith) (drop_all read ps past ∙ sym none) (subst EndsProduct (sym none) tt)

@@ -1,5 +1,5 @@
 -- The list of a number's power, by the sign and size of the power.
-use Rattle.std.proofs.Common.{◌≡◌, ℕ, zero, suc, ◌<◌, ◌≤◌, Bool, true, false, cond, leb, ℤ, pos, negsuc, nat_abs, refl, sym, ap, ◌∙◌, arith}
+use Rattle.std.proofs.Common.{◌≡◌, ℕ, zero, suc, ◌<◌, ◌≤◌, Bool, false, cond, ℤ, pos, negsuc, nat_abs, refl, sym, ap, ◌∙◌, arith}
 use Rattle.std.specs.Prelude.{Option, Some, None, Result, Ok, Err}
 use Rattle.std.specs.Option.{ok_or}
 use Rattle.std.specs.Result.{result_ok}
@@ -10,7 +10,7 @@ use Rattle.form_frac.specs.Fraction.{Fraction, largest, make, is_zero}
 use Rattle.form_frac.specs.declared.frac_error.FracError.{FracError}
 use Rattle.form_term.specs.Monomial.{unit}
 use Rattle.form_normal.specs.Product.{number_alone}
-use Rattle.form_expand.specs.Listing.{Listing, nothing, single, refusal}
+use Rattle.form_expand.specs.Listing.{nothing, single, refusal}
 use Rattle.form_expand.specs.Numbers.{raised, of_coefficient, of_fraction, number_list}
 
 pub number_of_none : (value : ℕ) (power : ℤ) → nat_abs power ≡ 0 → number_list value power ≡ single unit

@@ -1,5 +1,5 @@
 -- Reading a sum in parentheses up to where it ends.
-use Rattle.std.proofs.Common.{◌≡◌, ℕ, zero, suc, ◌+◌, ◌-◌, ◌<◌, ◌≤◌, Bool, true, false, List, [], ◌∷◌, ◌++◌, length, take, drop, map, refl, sym, ap, subst, ◌∙◌, arith}
+use Rattle.std.proofs.Common.{◌≡◌, ℕ, zero, suc, ◌+◌, ◌-◌, ◌<◌, ◌≤◌, true, false, List, [], ◌∷◌, ◌++◌, length, take, drop, map, refl, sym, ap, subst, ◌∙◌, arith}
 use Rattle.std.specs.Prelude.{Option, Some, None}
 use Rattle.std.proofs.lemmas.List.{map-append}
 use Rattle.form_tree.specs.declared.tree.Link.{Link}
@@ -10,11 +10,11 @@ use Rattle.form_expand.specs.declared.factor.Factor.{Factor}
 use Rattle.form_expand.specs.declared.stored.Stored.{Stored}
 use Rattle.form_expand.specs.Closings.{closing_at, deep_behind, power_at_end}
 use Rattle.form_expand.specs.Factors.{factor_whole}
-use Rattle.form_expand.specs.Listing.{Listing, powers}
-use Rattle.form_expand.specs.Reading.{Part, Reading, fresh, closed, linked, with_factor, with_piece, beginning, opening, closing, fed, outermost, read_from, list_of_pieces, begins, begins_product}
+use Rattle.form_expand.specs.Listing.{Listing}
+use Rattle.form_expand.specs.Reading.{Part, Reading, fresh, closed, linked, with_factor, fed, outermost, read_from, list_of_pieces, begins, begins_product}
 use Rattle.form_expand.specs.Numbers.{number_list, symbol_list}
 use Rattle.form_expand.specs.Stored.{terms_of}
-use Rattle.form_expand.specs.Readers.{EndsProduct, is_minus_link, is_minus_piece, joined, product_part, in_product, in_parenthesis}
+use Rattle.form_expand.specs.Readers.{EndsProduct, is_minus_link, is_minus_piece, joined, product_part, in_product}
 use Rattle.form_expand.proofs.Behind.{closed_fresh}
 
 outermost_last : (top : Part) (outer : List Part) (p : Part) → outermost top (outer ++ p ∷ []) ≡ p

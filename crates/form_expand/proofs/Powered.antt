@@ -1,6 +1,6 @@
 -- Powers of fractions, factor by factor.
-use Rattle.std.proofs.Common.{◌≡◌, ℕ, zero, suc, ◌+◌, ◌-◌, ◌<◌, ◌≤◌, refl, sym, ap, ◌∙◌, arith}
-use Rattle.std.specs.Prelude.{Option, Some, None, option_and_then, Result, Ok, Err}
+use Rattle.std.proofs.Common.{◌≡◌, ℕ, zero, suc, ◌+◌, ◌-◌, ◌≤◌, refl, sym, ap, ◌∙◌, arith}
+use Rattle.std.specs.Prelude.{Option, Some, None, option_and_then, Ok, Err}
 use Rattle.std.specs.Option.{ok_or}
 use Rattle.form_frac.specs.declared.frac_error.FracError.{FracError}
 use Rattle.form_frac.specs.declared.frac_error.FracError.TheVariants.{Overflow}

@@ -1,12 +1,12 @@
 -- How a power goes on when a term is taken from its last factor that is open.
-use Rattle.std.proofs.Common.{◌≡◌, ℕ, zero, suc, ◌+◌, ◌-◌, List, [], ◌∷◌, ◌++◌, map, refl, sym, ap, subst, ◌∙◌}
+use Rattle.std.proofs.Common.{◌≡◌, ℕ, zero, suc, List, [], ◌∷◌, ◌++◌, map, refl, sym, ap, subst, ◌∙◌}
 use Rattle.std.specs.Prelude.{Option, Some, None, Result, Ok, Err, replicate}
 use Rattle.std.proofs.lemmas.List.{map-append}
 use Rattle.form_term.specs.declared.monomial.Monomial.{Monomial}
 use Rattle.form_expand.specs.declared.error.ExpandError.{ExpandError}
 use Rattle.form_expand.specs.declared.power.Step.{Step}
-use Rattle.form_expand.specs.Listing.{Listing, nothing, before, times, powers}
-use Rattle.form_expand.specs.Left.{Level, Waiting, row_left, left_of_levels}
+use Rattle.form_expand.specs.Listing.{Listing, nothing, before, powers}
+use Rattle.form_expand.specs.Left.{Level, row_left, left_of_levels}
 use Rattle.form_expand.specs.Next.{Takes, Goes}
 use Rattle.form_expand.specs.Walks.{step_level, step_waiting, steps_left}
 use Rattle.form_expand.proofs.Levels.{left_of_power}

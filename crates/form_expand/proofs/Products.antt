@@ -1,6 +1,6 @@
 -- How a product goes on when a term is taken from its last factor that is open.
-use Rattle.std.proofs.Common.{◌≡◌, ℕ, zero, suc, ◌+◌, ◌-◌, ◌<◌, List, [], ◌∷◌, ◌++◌, length, map, refl, sym, ap, ◌∙◌, arith}
-use Rattle.std.specs.Prelude.{Option, Some, None, Result, Ok, Err, replicate, option_to_list}
+use Rattle.std.proofs.Common.{◌≡◌, ℕ, zero, suc, ◌+◌, ◌<◌, List, [], ◌∷◌, ◌++◌, length, map, refl, sym, ap, ◌∙◌, arith}
+use Rattle.std.specs.Prelude.{Option, Some, None, Ok, Err, replicate, option_to_list}
 use Rattle.std.proofs.lemmas.List.{map-append}
 use Rattle.form_term.specs.declared.monomial.Monomial.{Monomial}
 use Rattle.form_expand.specs.declared.error.ExpandError.{ExpandError}
@@ -8,7 +8,7 @@ use Rattle.form_expand.specs.declared.product.Level as levels
 use Rattle.form_expand.specs.declared.product.Queued.{Queued}
 use Rattle.form_expand.specs.declared.factor.Factor.{Factor}
 use Rattle.form_expand.specs.Listing.{Listing, nothing, before, limited, pairs, powers}
-use Rattle.form_expand.specs.Left.{Level, Waiting, left_at, left_past, left_past_all, left_of_levels, row, row_behind, row_left, times_by}
+use Rattle.form_expand.specs.Left.{Level, Waiting, left_at, left_past_all, left_of_levels, row, row_behind, row_left, times_by}
 use Rattle.form_expand.specs.Next.{Takes, Goes}
 use Rattle.form_expand.specs.Factors.{factor_whole, factor_left}
 use Rattle.form_expand.specs.Products.{level_of, waiting_of, queued_of, level_at_first, levels_left}

@@ -1,12 +1,11 @@
 -- How a row goes on when terms are taken from its last list that is open.
-use Rattle.std.proofs.Common.{◌≡◌, ℕ, ◌+◌, List, [], ◌∷◌, ◌++◌, refl, sym, ap, ◌∙◌}
-use Rattle.std.specs.Prelude.{Option, Some, None, Result, Ok, Err}
-use Rattle.form_base.specs.declared.cause.Cause.{Cause}
+use Rattle.std.proofs.Common.{◌≡◌, ℕ, List, [], ◌∷◌, ◌++◌, sym, ap, ◌∙◌}
+use Rattle.std.specs.Prelude.{Some, None, Ok, Err}
 use Rattle.form_term.specs.declared.monomial.Monomial.{Monomial}
 use Rattle.form_expand.specs.declared.error.ExpandError.{ExpandError}
 use Rattle.form_expand.specs.declared.error.ExpandError.TheVariants.{Refused, Memory}
-use Rattle.form_expand.specs.Listing.{Listing, nothing, refusal, before, times}
-use Rattle.form_expand.specs.Left.{Level, Waiting, left_at, left_past, left_of_levels, left_past_all, row_left}
+use Rattle.form_expand.specs.Listing.{Listing, nothing, before, times}
+use Rattle.form_expand.specs.Left.{Level, Waiting, left_at, left_of_levels, left_past_all, row_left}
 use Rattle.form_expand.specs.Next.{Takes, Goes}
 use Rattle.form_expand.proofs.Levels.{left_of_push, left_past_push, opened_at, refused_past_all, nothing_past_all}
 

@@ -1,7 +1,6 @@
 -- Taking terms from a sum whose products are gone through one after the other.
 use Rattle.std.proofs.Common.{◌≡◌, ℕ, zero, suc, ◌+◌, ◌-◌, ◌<◌, ◌≤◌, Bool, false, List, [], ◌∷◌, map, drop, refl, sym, ap, subst, ◌∙◌, arith}
-use Rattle.std.specs.Prelude.{Option, Some, None, Result, Ok, Err}
-use Rattle.form_base.specs.declared.cause.Cause.{Cause}
+use Rattle.std.specs.Prelude.{Option, Result, Err}
 use Rattle.form_base.specs.declared.cause.Cause.TheVariants.{ExpandLimit}
 use Rattle.form_term.specs.declared.monomial.Monomial.{Monomial}
 use Rattle.form_tree.specs.declared.tree.Piece.{Piece}
@@ -13,7 +12,7 @@ use Rattle.form_expand.specs.Literals.{IsLiteral}
 use Rattle.form_expand.specs.Listing.{Listing, nothing, single, refusal, before, limited, followed, signed, with_sign}
 use Rattle.form_expand.specs.Next.{Gives}
 use Rattle.form_expand.specs.Left.{row}
-use Rattle.form_expand.specs.Reading.{Part, list_of_pieces, read_from, closed}
+use Rattle.form_expand.specs.Reading.{list_of_pieces}
 use Rattle.form_expand.specs.Readers.{IsRead}
 use Rattle.form_expand.proofs.Behind.{pieces_of_none}
 use Rattle.form_expand.proofs.Listings.{followed_before, followed_nothing, followed_refusal, followed_last, limited_more, limited_none, limited_nothing, limited_refusal, limited_limited, limited_within}
@@ -73,7 +72,7 @@ stream_read limit given all pieces rest is_minus was_minus factors old new h don
     ∙ sym (stream_on limit given was_minus (list_of_pieces limit all pieces) old done)
 
 -- a list of one term, within the limit of the whole
-one_limited : (n k : ℕ) (is_minus : Bool) (m : Monomial) (rest : Listing) → n ≤ k → limited n (followed (signed is_minus (limited k (single m))) rest) ≡ limited n (followed (signed is_minus (single m)) rest)
+pub one_limited : (n k : ℕ) (is_minus : Bool) (m : Monomial) (rest : Listing) → n ≤ k → limited n (followed (signed is_minus (limited k (single m))) rest) ≡ limited n (followed (signed is_minus (single m)) rest)
 one_limited n zero is_minus m rest h =
     let e : n ≡ 0 = omega arith in
     rw e

@@ -1,13 +1,13 @@
 -- What taking a term does to a level.
-use Rattle.std.proofs.Common.{◌≡◌, ℕ, zero, suc, ◌+◌, ◌-◌, ◌<◌, ◌≤◌, List, [], ◌∷◌, refl, sym, ap, ◌∙◌, arith}
-use Rattle.std.specs.Prelude.{Option, Some, None, Result, Ok, Err}
+use Rattle.std.proofs.Common.{◌≡◌, ℕ, suc, ◌+◌, ◌-◌, ◌<◌, ◌≤◌, [], refl, sym, ap, ◌∙◌, arith}
+use Rattle.std.specs.Prelude.{Option, Some, None, Ok, Err}
 use Rattle.form_base.specs.declared.cause.Cause.{Cause}
 use Rattle.form_base.specs.declared.cause.Cause.TheVariants.{ExpandLimit}
 use Rattle.form_term.specs.declared.monomial.Monomial.{Monomial}
 use Rattle.form_expand.specs.declared.error.ExpandError.{ExpandError}
 use Rattle.form_expand.specs.declared.error.ExpandError.TheVariants.{Refused, Memory}
 use Rattle.form_expand.specs.Listing.{Listing, nothing, refusal, before, before_by, limited}
-use Rattle.form_expand.specs.Left.{Level, Waiting, left_at, left_past, product_by, times_by}
+use Rattle.form_expand.specs.Left.{Level, left_at, left_past, product_by, times_by}
 use Rattle.form_expand.specs.Kept.{ended_by}
 use Rattle.form_expand.specs.Next.{Gives, Takes, IsMade}
 use Rattle.form_expand.proofs.Listings.{times_end, limited_more, limited_none, limited_within}

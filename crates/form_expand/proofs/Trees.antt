@@ -13,8 +13,8 @@ use Rattle.form_expand.specs.Left.{row, row_behind}
 use Rattle.form_expand.specs.Listing.{Listing, nothing, limited, followed, pairs, powers, signed}
 use Rattle.form_expand.specs.Numbers.{number_list, symbol_list}
 use Rattle.form_expand.specs.Stored.{terms_of}
-use Rattle.form_expand.specs.Reading.{Part, Reading, fresh, closed, begun, linked, with_factor, with_piece, opening, closing, fed, read_from, list_of_pieces}
-use Rattle.form_expand.proofs.Listings.{limited_limited, limited_within, limited_length, limited_again, limited_powers, limited_nothing, signed_length, followed_nothing}
+use Rattle.form_expand.specs.Reading.{Part, fresh, closed, linked, with_piece, fed, read_from, list_of_pieces}
+use Rattle.form_expand.proofs.Listings.{limited_within, limited_length, limited_again, limited_powers, limited_nothing, signed_length, followed_nothing}
 use Rattle.form_expand.proofs.Products.{row_push}
 
 -- the lists of the factors of a product, in order

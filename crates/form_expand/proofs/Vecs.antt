@@ -1,5 +1,5 @@
 -- Vectors as their lists.
-use Rattle.std.proofs.Common.{◌≡◌, ℕ, zero, suc, List, [], take, refl, arith, vec_len}
+use Rattle.std.proofs.Common.{◌≡◌, ℕ, zero, suc, [], take, refl, arith, vec_len}
 use Rattle.std.specs.Prelude.{Vec}
 use Rattle.std.proofs.lemmas.List.{nil_from_length}
 

@@ -14,6 +14,7 @@ use Rattle.form_expand.specs.Listing.{Listing, before}
 abbrev pub kept_terms : Kept → List Monomial
 kept_terms kept.None = []
 kept_terms (kept.One term) = term ∷ []
+kept_terms (kept.Made terms) = terms.items
 kept_terms (kept.Stored terms) = terms.now
 
 abbrev pub end_of : Option Refusal → Option Cause

@@ -1,5 +1,5 @@
 -- Products of numbers and symbols, each of which is one term.
-use Rattle.std.specs.Prelude.{◌≡◌, ℕ, ◌≤◌, ℤ, Bool, true, false, List, length, drop, Ok}
+use Rattle.std.specs.Prelude.{◌≡◌, ℕ, ◌≤◌, ◌<◌, Bool, true, false, List, length, drop, Ok}
 use Rattle.form_term.specs.declared.monomial.Monomial.{Monomial}
 use Rattle.form_term.specs.Monomial.{unit}
 use Rattle.form_normal.specs.Product.{product_of}
@@ -34,5 +34,6 @@ IsTaken piece old new = ⊥
 
 -- The product at the front of these pieces is this term, and has so many of them.
 pub record IsLiteral (max : ℕ) (all : List Stored) (pieces : List Piece) (l : Literal) (read : ℕ) : Type 0 where
+  pub some : 0 < read
   pub within : read ≤ length pieces
   pub list : list_of_pieces max all pieces ≡ limited max (followed (signed l.is_minus (limited max (single l.term))) (list_of_pieces max all (drop read pieces)))

@@ -7,7 +7,7 @@ use Rattle.form_expand.specs.declared.error.ExpandError.TheVariants.{Refused, Me
 use Rattle.form_expand.specs.declared.progress.Progress.{Progress}
 use Rattle.form_expand.specs.declared.progress.Progress.TheVariants as progress
 use Rattle.form_expand.specs.Listing.{Listing, nothing, refusal, before}
-use Rattle.form_expand.specs.Left.{Level, Waiting, left_at, left_past}
+use Rattle.form_expand.specs.Left.{Level, left_at, left_past}
 
 -- The first term of what was left, which goes; or that nothing is left; or the refusal that stands there. Nothing is
 -- said where memory ran out.

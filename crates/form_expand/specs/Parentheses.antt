@@ -1,5 +1,5 @@
 -- A sum in parentheses as a factor.
-use Rattle.std.specs.Prelude.{◌≡◌, ℕ, suc, List, None}
+use Rattle.std.specs.Prelude.{◌≡◌, ℕ, suc, List}
 use Rattle.form_term.specs.declared.monomial.Monomial.{Monomial}
 use Rattle.form_expand.specs.declared.parenthesis.Parenthesis.TheInside.{Inside}
 use Rattle.form_expand.specs.declared.parenthesis.Mode.{Mode}

@@ -1,5 +1,5 @@
 -- Reading the pieces of a right side from the front.
-use Rattle.std.specs.Prelude.{ℕ, Bool, true, false, List, [], ◌∷◌, ◌++◌, fold, None}
+use Rattle.std.specs.Prelude.{ℕ, Bool, true, false, List, [], ◌∷◌, ◌++◌, None}
 use Rattle.form_tree.specs.declared.tree.Link.{Link}
 use Rattle.form_tree.specs.declared.tree.Link.TheVariants as links
 use Rattle.form_tree.specs.declared.tree.Piece.{Piece}

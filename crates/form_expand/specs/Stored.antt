@@ -1,5 +1,6 @@
 -- Expressions whose terms a right side may name.
 use Rattle.std.specs.Prelude.{ℕ, List, [], ◌∷◌, ◌==◌, if◌then◌else◌}
+use Rattle.std.specs.List.Sorted.{IsNonDecreasingBy}
 use Rattle.form_term.specs.declared.monomial.Monomial.{Monomial}
 use Rattle.form_expand.specs.declared.stored.Stored.{Stored}
 
@@ -7,3 +8,7 @@ use Rattle.form_expand.specs.declared.stored.Stored.{Stored}
 unfoldable pub terms_of : List Stored → ℕ → List Monomial
 terms_of [] expression = []
 terms_of (s ∷ all) expression = if s.expression == expression then s.terms else terms_of all expression
+
+-- no Id is lower than one before it
+abbrev pub Rise : List Stored → Type 0
+Rise all = IsNonDecreasingBy (λ (s : Stored). s.expression) all

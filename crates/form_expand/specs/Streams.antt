@@ -1,5 +1,5 @@
 -- What is left of a sum whose products are gone through one after the other.
-use Rattle.std.specs.Prelude.{ℕ, ◌-◌}
+use Rattle.std.specs.Prelude.{◌-◌}
 use Rattle.form_term.specs.declared.monomial.Monomial.{Monomial}
 use Rattle.form_expand.specs.declared.stream.Stream.{Stream}
 use Rattle.form_expand.specs.Listing.{Listing, before, limited, followed, signed}

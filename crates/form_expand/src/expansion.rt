@@ -4,12 +4,16 @@ ghost use Rattle.form_expand.specs.Expanding.{list_of_sum};
 ghost use Rattle.form_expand.specs.Next.{Gives};
 
 use crate::ExpandError;
-use crate::stored::Stored;
+use crate::stored::Standing;
 use crate::stream::Stream;
 use form_term::Monomial;
 use form_tree::Piece;
 use std::alloc::Global;
 use std::marker::Model;
+
+/// How many products of numbers and symbols a sum in parentheses may have that is read at once, where it stands within no
+/// other. All of them together are no more than the text has.
+const MOST_OUTSIDE: usize = 65_536;
 
 /// The list of a right side, whose terms are made one by one as they are asked for: in a clause what is left of it.
 #[derive(Drop)]
@@ -42,11 +46,11 @@ pub fn expand_tree<'a>(
     alloc: Global,
     tree: &'a [Piece],
     limit: u64,
-    stored: &'a [Stored],
+    stored: &'a Standing,
 ) -> Expansion<'a>
     ensures { (s : Sum) → tree.now ≡ pieces_of_sum s → result ≡ list_of_sum limit stored.now s }
 {
     Expansion {
-        stream: Stream::new(alloc, tree, limit, stored),
+        stream: Stream::new(alloc, tree, limit, stored, MOST_OUTSIDE),
     }
 }

@@ -8,9 +8,10 @@ ghost use Rattle.form_expand.specs.Next.{Gives};
 ghost use Rattle.form_expand.specs.Reading.{list_of_pieces};
 
 use crate::ExpandError;
+use crate::literal_sum::literal_sum;
 use crate::parenthesis::Parenthesis;
 use crate::power::Power;
-use crate::stored::Stored;
+use crate::stored::Standing;
 use crate::walk::Walk;
 use crate::whole::Whole;
 use form_term::Monomial;
@@ -43,18 +44,23 @@ impl<'a> Factor<'a> {
         }
     }
 
-    /// The sum of these pieces to a power.
+    /// The sum of these pieces to a power. It is read at once where it is one of at most `most` products of numbers and
+    /// symbols.
     pub fn parenthesis(
         alloc: Global,
         limit: u64,
-        stored: &'a [Stored],
+        stored: &'a Standing,
         pieces: &'a [Piece],
         power: u32,
+        most: usize,
     ) -> Result<Factor<'a>, AllocError>
         ensures { IfOk result (λ factor. factor_whole limit factor ≡ powers limit (list_of_pieces limit stored.now pieces.now) power) }
     {
         if power == 0 {
             return Ok(Factor::Once(Walk::new(Whole::single(Monomial::unit(alloc)))));
+        }
+        if let Some(terms) = literal_sum(alloc, pieces, limit, most)? {
+            return Ok(Factor::new(alloc, Whole::made(terms), power)?);
         }
         let parenthesis = Parenthesis::new(alloc, limit, stored, pieces, power - 1);
         Ok(Factor::Parenthesis(Box::new(alloc, parenthesis)?))
@@ -64,7 +70,7 @@ impl<'a> Factor<'a> {
     pub fn alone(
         alloc: Global,
         limit: u64,
-        stored: &'a [Stored],
+        stored: &'a Standing,
         pieces: &'a [Piece],
     ) -> Result<Factor<'a>, AllocError>
         ensures whole { IfOk result (λ factor. (max : ℕ) → factor_whole max factor ≡ powers limit (list_of_pieces limit stored.now pieces.now) 1) }

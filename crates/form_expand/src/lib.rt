@@ -2,7 +2,8 @@
 //!
 //! A sum is read product by product (`stream`, `reader`). A product is paired from the left, deepest first, with one level
 //! for each factor (`product`), so that none of its terms is kept. A factor (`factor`) is a list that is there as a whole,
-//! or a power of one (`whole`, `walk`, `power`), or a sum in parentheses, which is made anew, in the same way, for each
+//! or a power of one (`whole`, `walk`, `power`), as that of a short sum of numbers and symbols in parentheses is, which is
+//! read at once (`literal`, `literal_sum`); or any other sum in parentheses, which is made anew, in the same way, for each
 //! term of the front before it (`parenthesis`). So recursion goes as deep as parentheses stand within one another.
 #![tactic(auto)]
 
@@ -10,6 +11,7 @@ mod error;
 mod expansion;
 mod factor;
 mod literal;
+mod literal_sum;
 mod number;
 mod parenthesis;
 mod power;
@@ -25,7 +27,7 @@ mod whole;
 
 pub use error::ExpandError;
 pub use expansion::{Expansion, expand_tree};
-pub use stored::{Stored, Terms};
+pub use stored::{Standing, Stored, Terms};
 
 #[cfg(test)]
 mod tests;

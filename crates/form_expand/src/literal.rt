@@ -1,6 +1,7 @@
 //! Products of numbers and symbols, as the summands of a long sum are, each read into one term.
 ghost use Rattle.std.specs.Prelude.{◌≡◌, ◌<◌, ℕ, List, length, true, Ok, IfOk, IfSome};
 ghost use Rattle.form_expand.specs.declared.stored.Stored.{Stored};
+ghost use Rattle.form_expand.specs.Listing.{with_sign};
 ghost use Rattle.form_expand.specs.Literals.{IsLiteral, IsTaken, IsTimes, sign_behind};
 ghost use Rattle.form_expand.specs.Numbers.{number_list, symbol_list};
 
@@ -51,6 +52,14 @@ impl Literal {
             Link::Minus => self.is_minus = true,
             Link::Times => {}
         }
+    }
+
+    /// The term behind its sign.
+    pub fn into_term(self) -> Monomial
+        ensures { result ≡ with_sign self.is_minus self.term }
+    {
+        let Literal { is_minus, term } = self;
+        if is_minus { term.negated() } else { term }
     }
 
     fn take_number(&mut self, value: u128, power: i32) -> bool

@@ -10,7 +10,7 @@ ghost use Rattle.form_expand.specs.Walks.{terms_left};
 
 use crate::ExpandError;
 use crate::product::Product;
-use crate::stored::Stored;
+use crate::stored::Standing;
 use crate::stream::Stream;
 use crate::times::times;
 use form_term::Monomial;
@@ -20,6 +20,10 @@ use std::marker::Model;
 
 /// How many terms of a list are kept at most.
 const MOST_KEPT: usize = 4096;
+
+/// How many products of numbers and symbols a sum in parentheses may have that is read at once, where it stands within
+/// another: each factor of a power of that has its own.
+const MOST_WITHIN: usize = 256;
 
 /// Where the terms of a list come from.
 #[derive(Clone, Copy)]
@@ -59,7 +63,7 @@ impl Mode {
 #[derive(Drop)]
 pub struct Parenthesis<'a> {
     limit: u64,
-    stored: &'a [Stored],
+    stored: &'a Standing,
     /// The pieces of the sum.
     pieces: &'a [Piece],
     /// How many factors the power has behind the first.
@@ -95,7 +99,7 @@ impl<'a> Parenthesis<'a> {
     pub fn new(
         alloc: Global,
         limit: u64,
-        stored: &'a [Stored],
+        stored: &'a Standing,
         pieces: &'a [Piece],
         later: u32,
     ) -> Parenthesis<'a>
@@ -108,7 +112,7 @@ impl<'a> Parenthesis<'a> {
             pieces,
             later,
             mode: Mode::Makes,
-            stream: Stream::new(alloc, pieces, limit, stored),
+            stream: Stream::new(alloc, pieces, limit, stored, MOST_WITHIN),
             kept: Vec::new(alloc),
             place: 0,
         }
@@ -189,14 +193,14 @@ fn walk(
 fn begun<'a>(
     alloc: Global,
     limit: u64,
-    stored: &'a [Stored],
+    stored: &'a Standing,
     pieces: &'a [Piece],
     later: u32,
 ) -> Result<Stream<'a>, AllocError>
     ensures { IfOk result (λ stream. stream_left stream ≡ powers limit (list_of_pieces limit stored.now pieces.now) (suc later)) }
 {
     if later == 0 {
-        return Ok(Stream::new(alloc, pieces, limit, stored));
+        return Ok(Stream::new(alloc, pieces, limit, stored, MOST_WITHIN));
     }
     let product = Product::power(alloc, limit, stored, pieces, later)?;
     Ok(Stream::of_product(product, limit, stored))

@@ -9,7 +9,7 @@ ghost use Rattle.form_expand.specs.Reading.{list_of_pieces};
 use crate::ExpandError;
 use crate::factor::Factor;
 use crate::progress::Progress;
-use crate::stored::Stored;
+use crate::stored::Standing;
 use form_base::Cause;
 use form_term::Monomial;
 use form_tree::Piece;
@@ -134,7 +134,7 @@ impl<'a> Product<'a> {
     pub fn power(
         alloc: Global,
         limit: u64,
-        stored: &'a [Stored],
+        stored: &'a Standing,
         pieces: &'a [Piece],
         later: u32,
     ) -> Result<Product<'a>, AllocError>

@@ -6,7 +6,7 @@ ghost use Rattle.form_expand.specs.Readers.{IsRead, IsReadFactor, IsReadOn, IsRe
 
 use crate::factor::Factor;
 use crate::number::{number_list, symbol_list};
-use crate::stored::{Stored, terms_of};
+use crate::stored::Standing;
 use crate::whole::{Kept, Whole};
 use form_tree::{Link, Piece};
 use std::alloc::{AllocError, Global};
@@ -18,12 +18,14 @@ pub struct Summand<'a> {
     pub factors: Vec<Factor<'a>>,
 }
 
-/// Reads the product that these pieces begin with. Answers it, and the pieces behind it.
+/// Reads the product that these pieces begin with. Answers it, and the pieces behind it. A factor in parentheses is read at
+/// once where it is a sum of at most `most` products of numbers and symbols.
 pub fn read_product<'a>(
     alloc: Global,
     pieces: &'a [Piece],
-    stored: &'a [Stored],
+    stored: &'a Standing,
     limit: u64,
+    most: usize,
 ) -> Result<(Summand<'a>, &'a [Piece]), AllocError>
     ensures { IfOk result (λ read. IsRead limit stored.now pieces.now read.0.is_minus
         (map (factor_whole limit) read.0.factors.items) read.1.now) }
@@ -39,8 +41,8 @@ pub fn read_product<'a>(
         ));
     };
     let is_minus = is_subtracted(first);
-    let rest = read_factor(alloc, first, more, stored, limit, &mut factors)?;
-    let rest = read_on(alloc, rest, stored, limit, &mut factors)?;
+    let rest = read_factor(alloc, first, more, stored, limit, most, &mut factors)?;
+    let rest = read_on(alloc, rest, stored, limit, most, &mut factors)?;
     Ok((Summand { is_minus, factors }, rest))
 }
 
@@ -74,8 +76,9 @@ pub fn begins(piece: &Piece) -> bool
 fn read_on<'a>(
     alloc: Global,
     pieces: &'a [Piece],
-    stored: &'a [Stored],
+    stored: &'a Standing,
     limit: u64,
+    most: usize,
     factors: &mut Vec<Factor<'a>>,
 ) -> Result<&'a [Piece], AllocError>
     ensures { IfOk result (λ rest. IsReadOn limit stored.now pieces.now
@@ -86,7 +89,7 @@ fn read_on<'a>(
         if begins(piece) {
             return Ok(rest);
         }
-        rest = read_factor(alloc, piece, more, stored, limit, factors)?;
+        rest = read_factor(alloc, piece, more, stored, limit, most, factors)?;
     }
     Ok(rest)
 }
@@ -97,8 +100,9 @@ fn read_factor<'a>(
     alloc: Global,
     piece: &Piece,
     more: &'a [Piece],
-    stored: &'a [Stored],
+    stored: &'a Standing,
     limit: u64,
+    most: usize,
     factors: &mut Vec<Factor<'a>>,
 ) -> Result<&'a [Piece], AllocError>
     ensures read { IfOk result (λ rest. IsReadFactor limit stored.now piece.now more.now
@@ -122,13 +126,13 @@ fn read_factor<'a>(
             ..
         } => {
             let whole = Whole {
-                kept: Kept::Stored(terms_of(stored, *expression)),
+                kept: Kept::Stored(stored.terms_of(*expression)),
                 end: None,
             };
             factors.push(Factor::new(alloc, whole, *power)?)?;
             Ok(more)
         }
-        Piece::Open { .. } => read_parenthesis(alloc, more, stored, limit, factors),
+        Piece::Open { .. } => read_parenthesis(alloc, more, stored, limit, most, factors),
         Piece::Close { .. } => Ok(more),
     }
 }
@@ -137,8 +141,9 @@ fn read_factor<'a>(
 fn read_parenthesis<'a>(
     alloc: Global,
     pieces: &'a [Piece],
-    stored: &'a [Stored],
+    stored: &'a Standing,
     limit: u64,
+    most: usize,
     factors: &mut Vec<Factor<'a>>,
 ) -> Result<&'a [Piece], AllocError>
     ensures read { IfOk result (λ rest. IsReadParenthesis limit stored.now pieces.now
@@ -149,7 +154,7 @@ fn read_parenthesis<'a>(
         return Ok(&[]);
     };
     let (within, behind) = pieces.split_at(len);
-    factors.push(Factor::parenthesis(alloc, limit, stored, within, power)?)?;
+    factors.push(Factor::parenthesis(alloc, limit, stored, within, power, most)?)?;
     let (_, rest) = behind.split_at(1);
     Ok(rest)
 }

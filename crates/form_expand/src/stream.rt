@@ -11,7 +11,7 @@ use crate::ExpandError;
 use crate::literal::read_literal;
 use crate::product::Product;
 use crate::reader::read_product;
-use crate::stored::Stored;
+use crate::stored::Standing;
 use form_base::Cause;
 use form_term::Monomial;
 use form_tree::Piece;
@@ -22,7 +22,9 @@ use std::alloc::{AllocError, Global};
 #[derive(Drop)]
 pub struct Stream<'a> {
     pub limit: u64,
-    pub stored: &'a [Stored],
+    pub stored: &'a Standing,
+    /// How many products of numbers and symbols a sum in parentheses may have that is read at once.
+    pub most: usize,
     /// How many terms were given.
     pub given: u64,
     /// The product at hand, with its sign.
@@ -33,13 +35,20 @@ pub struct Stream<'a> {
 }
 
 impl<'a> Stream<'a> {
-    pub fn new(alloc: Global, pieces: &'a [Piece], limit: u64, stored: &'a [Stored]) -> Stream<'a>
+    pub fn new(
+        alloc: Global,
+        pieces: &'a [Piece],
+        limit: u64,
+        stored: &'a Standing,
+        most: usize,
+    ) -> Stream<'a>
         ensures tree { (s : Sum) → pieces.now ≡ pieces_of_sum s → stream_left result ≡ list_of_sum limit stored.now s }
         ensures pieces { stream_left result ≡ limited limit (list_of_pieces limit stored.now pieces.now) }
     {
         Stream {
             limit,
             stored,
+            most,
             given: 0,
             is_minus: false,
             product: Product::none(alloc),
@@ -48,12 +57,13 @@ impl<'a> Stream<'a> {
     }
 
     /// A sum of this product alone.
-    pub fn of_product(product: Product<'a>, limit: u64, stored: &'a [Stored]) -> Stream<'a>
+    pub fn of_product(product: Product<'a>, limit: u64, stored: &'a Standing) -> Stream<'a>
         ensures { stream_left result ≡ limited limit (product_left limit product.entry) }
     {
         Stream {
             limit,
             stored,
+            most: 0,
             given: 0,
             is_minus: false,
             product,
@@ -113,7 +123,7 @@ impl<'a> Stream<'a> {
         requires { product_left self.old.limit self.old.product ≡ nothing }
         ensures { OnOk result (stream_left self.new ≡ stream_left self.old) }
     {
-        let (summand, rest) = read_product(alloc, self.rest, self.stored, self.limit)?;
+        let (summand, rest) = read_product(alloc, self.rest, self.stored, self.limit, self.most)?;
         self.is_minus = summand.is_minus;
         self.product = Product::new(alloc, summand.factors)?;
         self.rest = rest;

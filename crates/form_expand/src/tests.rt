@@ -1,6 +1,6 @@
 //! Lists written out by hand, and limits.
 
-use crate::{ExpandError, Expansion, Stored, Terms, expand_tree};
+use crate::{ExpandError, Expansion, Standing, Stored, Terms, expand_tree};
 use form_base::{Cause, Id};
 use form_frac::Frac;
 use form_term::{Monomial, Term};
@@ -50,11 +50,45 @@ fn square(alloc: Global) -> Result<Vec<Piece>, AllocError> {
 fn a_square_is_written_out_in_order(rt: HostRuntime) -> Result<(), Fail> {
     let alloc = rt.alloc();
     let pieces = square(alloc)?;
-    let mut list = expand_tree(alloc, &pieces, 4, &[]);
+    let none = Standing::from_vec(Vec::new(alloc));
+    let mut list = expand_tree(alloc, &pieces, 4, &none);
     assert!(rt; gives(alloc, &mut list, &[(0, 2)])?);
     assert!(rt; gives(alloc, &mut list, &[(0, 1), (1, 1)])?);
     assert!(rt; gives(alloc, &mut list, &[(0, 1), (1, 1)])?);
     assert!(rt; gives(alloc, &mut list, &[(1, 2)])?);
+    assert!(rt; next(alloc, &mut list)?.is_none());
+    Ok(())
+}
+
+/// x*((x+y)*y + 1).
+fn nested(alloc: Global) -> Result<Vec<Piece>, AllocError> {
+    let pieces = [
+        symbol(Link::Plus, 0, 1),
+        Piece::Open { link: Link::Times },
+        Piece::Open { link: Link::Plus },
+        symbol(Link::Plus, 0, 1),
+        symbol(Link::Plus, 1, 1),
+        Piece::Close { power: 1 },
+        symbol(Link::Times, 1, 1),
+        Piece::Number {
+            link: Link::Plus,
+            value: 1,
+            power: 1,
+        },
+        Piece::Close { power: 1 },
+    ];
+    Vec::from_slice(alloc, &pieces)
+}
+
+#[test]
+fn parentheses_stand_within_parentheses(rt: HostRuntime) -> Result<(), Fail> {
+    let alloc = rt.alloc();
+    let pieces = nested(alloc)?;
+    let none = Standing::from_vec(Vec::new(alloc));
+    let mut list = expand_tree(alloc, &pieces, 3, &none);
+    assert!(rt; gives(alloc, &mut list, &[(0, 2), (1, 1)])?);
+    assert!(rt; gives(alloc, &mut list, &[(0, 1), (1, 2)])?);
+    assert!(rt; gives(alloc, &mut list, &[(0, 1)])?);
     assert!(rt; next(alloc, &mut list)?.is_none());
     Ok(())
 }
@@ -71,7 +105,8 @@ fn is_too_long(alloc: Global, list: &mut Expansion) -> bool {
 fn a_list_ends_behind_its_limit(rt: HostRuntime) -> Result<(), Fail> {
     let alloc = rt.alloc();
     let pieces = square(alloc)?;
-    let mut list = expand_tree(alloc, &pieces, 3, &[]);
+    let none = Standing::from_vec(Vec::new(alloc));
+    let mut list = expand_tree(alloc, &pieces, 3, &none);
     assert!(rt; gives(alloc, &mut list, &[(0, 2)])?);
     assert!(rt; gives(alloc, &mut list, &[(0, 1), (1, 1)])?);
     assert!(rt; gives(alloc, &mut list, &[(0, 1), (1, 1)])?);
@@ -121,10 +156,12 @@ fn numbers_and_expressions_stand_in_their_places(rt: HostRuntime) -> Result<(), 
         coefficient: Frac::whole(5),
         term: Term::symbol(alloc, Id::new(0), 4)?,
     })?;
-    let stored = [Stored {
+    let mut stored = Vec::new(alloc);
+    stored.push(Stored {
         expression: Id::new(2),
         terms: Terms::from_vec(terms),
-    }];
+    })?;
+    let stored = Standing::from_vec(stored);
     let pieces = difference(alloc)?;
     let mut list = expand_tree(alloc, &pieces, 10, &stored);
     assert!(rt; Ok(coefficient(alloc, &mut list)) == Frac::make(1, 2));

@@ -12,6 +12,7 @@ use form_term::Monomial;
 pub enum Kept<'a> {
     None,
     One(Monomial),
+    Made(Vec<Monomial>),
     Stored(&'a [Monomial]),
 }
 
@@ -22,6 +23,7 @@ impl Kept<'_> {
         match self {
             Kept::None => &[],
             Kept::One(term) => std::slice::from_ref(term),
+            Kept::Made(terms) => terms.as_slice(),
             Kept::Stored(terms) => terms,
         }
     }
@@ -50,6 +52,15 @@ impl Whole<'_> {
     {
         Whole {
             kept: Kept::One(term),
+            end: None,
+        }
+    }
+
+    pub fn made<'a>(terms: Vec<Monomial>) -> Whole<'a>
+        ensures { listing result ≡ record { terms = terms.items; end = None } }
+    {
+        Whole {
+            kept: Kept::Made(terms),
             end: None,
         }
     }

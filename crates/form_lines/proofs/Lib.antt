@@ -1,5 +1,3 @@
 mod Splitting
-mod Plain
+pub mod Plain
 mod Going
-mod Handing
-mod Programs

@@ -1,14 +1,11 @@
-//! The lines of a text, and those of them that a program has.
+//! The lines of a text.
 #![tactic(auto)]
 
-pub mod laws;
 mod line;
 mod lines;
-mod program;
 
 pub use line::Line;
-pub use lines::{LinesError, lines_of};
-pub use program::{TextError, read_lines};
+pub use lines::{LinesError, last_line, lines_of};
 
 #[cfg(test)]
 mod tests;

@@ -3,6 +3,7 @@ ghost use Rattle.std.specs.List.{list_all};
 ghost use Rattle.std.specs.Str.Lines.{strip_carriage_return};
 ghost use Rattle.form_lines.specs.Text.{IsFirstLine, lines_but_commentary, begins_with, is_plain_byte as is_plain_byte_of, has_other_bytes, IsPlain};
 ghost use Rattle.form_lines.specs.Answers.{IsBadLine, IsBadAt};
+ghost use Rattle.form_lines.specs.Program.{last_line as last_line_of};
 
 use crate::Line;
 use std::alloc::{AllocError, AllocFailed, Global};
@@ -53,7 +54,7 @@ fn newline(bytes: &[u8]) -> Option<usize>
 }
 
 /// The first line and what follows it, none where there is no line.
-pub(crate) fn first_line(bytes: &[u8]) -> Option<(&[u8], &[u8])>
+fn first_line(bytes: &[u8]) -> Option<(&[u8], &[u8])>
     ensures { MatchOption result (bytes.now ≡ []) (λ x. IsFirstLine bytes.now x.0.now x.1.now) }
 {
     if bytes.is_empty() {
@@ -66,7 +67,7 @@ pub(crate) fn first_line(bytes: &[u8]) -> Option<(&[u8], &[u8])>
 }
 
 /// Whether a line begins with this byte.
-pub(crate) fn begins_with_byte(text: &[u8], byte: u8) -> bool
+fn begins_with_byte(text: &[u8], byte: u8) -> bool
     ensures { result ≡ begins_with byte text.now }
 {
     match text {
@@ -124,4 +125,18 @@ pub fn lines_of(alloc: Global, bytes: &[u8]) -> Result<Vec<Line>, LinesError>
         rest = others;
     }
     Ok(lines)
+}
+
+/// The number of a text's last line, and 1 where it has none.
+pub fn last_line(bytes: &[u8]) -> u32
+    requires { length bytes.now < 2 ^ 32 }
+    ensures { result ≡ last_line_of bytes.now }
+{
+    let mut number: u32 = 0;
+    let mut rest = bytes;
+    while let Some((_, others)) = first_line(rest) {
+        number += 1;
+        rest = others;
+    }
+    number.max(1)
 }

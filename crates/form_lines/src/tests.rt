@@ -2,7 +2,7 @@
 
 ghost use Rattle.std.specs.Prelude.{◌<◌, ◌^◌, length};
 
-use crate::{Line, LinesError, lines_of, read_lines};
+use crate::{Line, LinesError, last_line, lines_of};
 use std::alloc::Global;
 use std::test::Fail;
 
@@ -23,11 +23,12 @@ fn bad_line(alloc: Global, text: &[u8]) -> Result<u32, Fail>
 }
 
 #[test]
-fn lines_of_a_program(rt: HostRuntime) -> Result<(), Fail> {
+fn lines_of_a_text(rt: HostRuntime) -> Result<(), Fail> {
     let text = b"Symbols x,y;\r\n* a remark\nLocal F = (x+y)^2;\nPrint;\n .End";
-    let Ok(lines) = read_lines(rt.alloc(), text) else {
+    let Ok(lines) = lines_of(rt.alloc(), text) else {
         return Err(Fail::from("refused"));
     };
+    assert_eq!(rt; last_line(text), 5);
     assert_eq!(rt; lines.len(), 4);
     assert!(rt; is_line(&lines[0], 1, "Symbols x,y;"));
     assert!(rt; is_line(&lines[1], 3, "Local F = (x+y)^2;"));

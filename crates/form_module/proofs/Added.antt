@@ -1,5 +1,5 @@
 -- A set of expressions with one more.
-use Rattle.std.proofs.Common.{◌≡◌, Bool, true, false, ◌||◌, cond, refl, sym, ap, ◌∙◌}
+use Rattle.std.proofs.Common.{◌≡◌, Bool, true, false, ◌||◌, cond, refl, ap, ◌∙◌}
 
 pub with_one : (all here there after : Bool) → after ≡ cond here true there → (all || after) ≡ ((all || there) || here)
 with_one all here there after e = ap (λ x. all || x) e ∙ by all here there

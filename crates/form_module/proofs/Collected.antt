@@ -1,10 +1,8 @@
 -- Collecting a list as it comes.
-use Rattle.std.proofs.Common.{◌≡◌, List, [], ◌∷◌, ◌++◌, Option, Some, None, Result, Ok, Err, refl, sym, ap, ◌∙◌, append_assoc}
+use Rattle.std.proofs.Common.{◌≡◌, List, [], ◌∷◌, ◌++◌, None, Err, refl, sym, ap, ◌∙◌, append_assoc}
 use Rattle.std.proofs.lemmas.List.{append-nil}
 use Rattle.form_base.specs.declared.cause.Cause.{Cause}
-use Rattle.form_base.specs.declared.cause.Cause.TheVariants.{Overflow}
 use Rattle.form_term.specs.declared.monomial.Monomial.{Monomial}
-use Rattle.form_collect.specs.Collecting.{collected}
 use Rattle.form_collect.specs.Collector.{IsCollectionOf}
 use Rattle.form_collect.specs.declared.collector.Collector.{Collector}
 use Rattle.form_expand.specs.Listing.{Listing, nothing, refusal, before}

@@ -1,5 +1,5 @@
 -- The entries of a map with one more stand for their list with one more.
-use Rattle.std.proofs.Common.{◌≡◌, ℕ, ◌+◌, ◌<◌, List, [], ◌∷◌, ◌++◌, length, map, take, fold, get_or, Option, Some, refl, sym, ap, ◌∙◌}
+use Rattle.std.proofs.Common.{◌≡◌, ℕ, ◌+◌, ◌<◌, List, [], ◌∷◌, length, map, take, fold, get_or, Some, refl, sym, ap, ◌∙◌}
 use Rattle.std.specs.Prelude.{slice_get}
 use Rattle.std.specs.Ordering.{nat_cmp, match_ordering}
 use Rattle.std.specs.declared.cmp.Ordering.{Ordering}
@@ -12,7 +12,7 @@ use Rattle.form_check.specs.declared.checked.Checked.{Checked}
 use Rattle.form_check.specs.declared.checked.Checked.TheVariants.{Drop, Skip, Local, Print}
 use Rattle.form_term.specs.declared.monomial.Monomial.{Monomial}
 use Rattle.form_module.specs.Kept.{as_stored}
-use Rattle.form_module.specs.Module.{Definition, with_definition, and_definition, with_expression}
+use Rattle.form_module.specs.Module.{with_definition, and_definition, with_expression}
 use Rattle.form_module.specs.Places.{definition_at, right_side_of, with_place}
 
 map-match_ordering : {A B : Type 0} (f : A → B) (o : Ordering) (less equal greater : List A) → map f (match_ordering o less equal greater) ≡ match_ordering o (map f less) (map f equal) (map f greater)

@@ -1,5 +1,5 @@
 -- Where each right side has a tree, the definitions have trees.
-use Rattle.std.proofs.Common.{◌≡◌, ℕ, List, [], ◌∷◌, fold, refl}
+use Rattle.std.proofs.Common.{◌≡◌, List, [], ◌∷◌, fold, refl}
 use Rattle.std.specs.Ordering.{nat_cmp, match_ordering}
 use Rattle.std.specs.declared.cmp.Ordering.{Ordering}
 use Rattle.std.specs.declared.cmp.Ordering.TheVariants.{Less, Equal, Greater}

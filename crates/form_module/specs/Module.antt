@@ -13,7 +13,7 @@ use Rattle.form_expand.specs.Expanding.{list_of_sum}
 use Rattle.form_expand.specs.declared.stored.Stored.{Stored}
 use Rattle.form_check.specs.declared.checked.Checked.{Checked}
 use Rattle.form_check.specs.declared.checked.Checked.TheVariants.{Drop, Skip, Local, Print}
-use Rattle.form_check.specs.Standing.{means, defines, drops}
+use Rattle.form_check.specs.Standing.{defines, drops}
 
 -- the module leaves an expression as it is: it neither drops it nor defines it anew
 abbrev pub is_left : List Checked → ℕ → Bool

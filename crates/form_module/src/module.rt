@@ -10,7 +10,7 @@ use crate::result::result_of;
 use crate::right_sides::{definitions, right_side};
 use form_base::{Id, Settings};
 use form_check::{Checked, Module};
-use form_expand::{Stored, Terms};
+use form_expand::{Standing, Stored, Terms};
 use std::alloc::{AllocError, Global};
 use std::collections::BTreeMap;
 
@@ -30,10 +30,11 @@ pub fn run_module(
         (Err (record { cause = cause; expression = expression })) }
 {
     let statements = carried.as_slice();
+    let standing = Standing::from_vec(standing);
     let results = carry_out(alloc, settings, statements, &standing)?;
     let changed = changed(alloc, statements)?;
     let mut after = BTreeMap::new(alloc);
-    keep(&mut after, &changed, standing)?;
+    keep(&mut after, &changed, standing.into_vec())?;
     put(&mut after, results)?;
     Ok(listed(alloc, after)?)
 }
@@ -43,7 +44,7 @@ fn carry_out(
     alloc: Global,
     settings: &Settings,
     statements: &[Checked],
-    standing: &[Stored],
+    standing: &Standing,
 ) -> Result<Vec<Stored>, ModuleError>
     requires { HaveTrees statements.now }
     ensures { AreCarriedOut settings.now statements.now standing.now result }

@@ -6,7 +6,7 @@ ghost use Rattle.form_module.specs.Module.{result_of as result_meant, unless_end
 use crate::result_error::ResultError;
 use form_base::{Cause, Settings};
 use form_collect::Collector;
-use form_expand::{Expansion, Stored, Terms, expand_tree};
+use form_expand::{Expansion, Standing, Terms, expand_tree};
 use form_term::Monomial;
 use form_tree::Piece;
 use std::alloc::Global;
@@ -16,7 +16,7 @@ pub fn result_of(
     alloc: Global,
     settings: &Settings,
     right_side: &[Piece],
-    standing: &[Stored],
+    standing: &Standing,
 ) -> Result<Terms, ResultError>
     ensures { (tree : Sum) → right_side.now ≡ pieces_of_sum tree →
         Gives (λ terms. terms) result (result_meant settings.now standing.now tree) }

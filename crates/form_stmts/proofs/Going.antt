@@ -5,7 +5,7 @@ use Rattle.std.proofs.lemmas.List.{append-nil, map-append}
 use Rattle.std.proofs.lemmas.Option.{same_Some}
 use Rattle.form_lexer.specs.Tokens.{AppendsTokens, AreTokens}
 use Rattle.form_base.specs.declared.spot.Spot.{Spot}
-use Rattle.form_lines.specs.Text.{PhysicalLine}
+use Rattle.form_stmts.specs.Line.{PlacedLine}
 use Rattle.form_lexer.specs.declared.token.Token.{Token}
 use Rattle.form_ast.specs.declared.statement.Statement.{Statement}
 use Rattle.form_ast.specs.declared.statement.Placed.{Placed}
@@ -19,7 +19,7 @@ use Rattle.form_grammar.specs.Parts.{HasRead}
 use Rattle.form_stmts.specs.Begun.{AreBegun}
 use Rattle.form_stmts.specs.Instruction.{begins_with_period, is_module_instruction}
 use Rattle.form_stmts.specs.Statement.{IsStatement}
-use Rattle.form_stmts.specs.Program.{Lexed, token, period, Item, statement, unfinished, instruction, items, first_spot, is_semicolon, IsInGrammar, StandsAt, IsRefusedAt, spot_of, AreModules, IsLexed}
+use Rattle.form_stmts.specs.Program.{Lexed, token, period, Item, statement, instruction, items, first_spot, is_semicolon, IsInGrammar, StandsAt, IsRefusedAt, AreModules, IsLexed}
 use Rattle.form_stmts.specs.Progress.{HasBegun, ReadTo, ReadsOn, Refuses, RefusesLine, EndsWith, EndsStatement, IsRefusedItem}
 
 -- a statement that is none is refused at its first token
@@ -95,7 +95,7 @@ none_begun [] e = refl
 none_begun (t ∷ ts) e = cc
 
 -- a line that begins with a period is refused where a statement is begun
-pub unfinished_refused : (old : Reader) (line : PhysicalLine) (spot : Spot) → Some spot ≡ first_spot old.tokens.items → Refuses old (period line ∷ []) (BadSyntax spot)
+pub unfinished_refused : (old : Reader) (line : PlacedLine) (spot : Spot) → Some spot ≡ first_spot old.tokens.items → Refuses old (period line ∷ []) (BadSyntax spot)
 unfinished_refused old line spot e lexed rest to =
     subst (λ (all : List Item). IsRefusedAt all spot) (all_behind lexed rest (period line))
     (by_begun to.begun (e ∙ sym (first_begun old.tokens.items to.begun old.right_side to.has_begun)) (to.refused (period line ∷ rest) spot))
@@ -104,16 +104,16 @@ unfinished_refused old line spot e lexed rest to =
     by_begun [] e r = cc
     by_begun (t ∷ ts) e r = r (inl ((λ h. h), sym (same_Some spot t.spot e)))
 
-module _ (old : Reader) (line : PhysicalLine) (none : None ≡ first_spot old.tokens.items) where
+module _ (old : Reader) (line : PlacedLine) (none : None ≡ first_spot old.tokens.items) where
   no_begun : (begun : List Token) → HasBegun old begun → begun ≡ []
   no_begun begun h = none_begun begun (none ∙ sym (first_begun old.tokens.items begun old.right_side h))
 
   -- or where it is no instruction
-  pub instruction_refused : (IsTrue (is_module_instruction line.text) → ⊥) → Refuses old (period line ∷ []) (BadSyntax (spot_of line))
+  pub instruction_refused : (IsTrue (is_module_instruction line.text) → ⊥) → Refuses old (period line ∷ []) (BadSyntax line.spot)
   instruction_refused wrong lexed rest to =
       let here : items to.begun (period line ∷ rest) ≡ instruction line ∷ items [] rest = ap (λ (begun : List Token). items begun (period line ∷ rest)) (no_begun to.begun to.has_begun) in
-      subst (λ (all : List Item). IsRefusedAt all (spot_of line)) (all_behind lexed rest (period line))
-      (to.refused (period line ∷ rest) (spot_of line) (subst (λ (all : List Item). IsRefusedAt all (spot_of line)) (sym here) (inl (wrong, refl))))
+      subst (λ (all : List Item). IsRefusedAt all line.spot) (all_behind lexed rest (period line))
+      (to.refused (period line ∷ rest) line.spot (subst (λ (all : List Item). IsRefusedAt all line.spot) (sym here) (inl (wrong, refl))))
 
   -- and else ends the module
   pub module_ends : (new : Reader) → IsTrue (is_module_instruction line.text) → HasBegun new [] → new.statements.items ≡ [] → new.modules.items ≡ old.modules.items ++ old.statements.items ∷ [] → ReadsOn old (period line ∷ []) new
@@ -134,7 +134,7 @@ module _ (old : Reader) (line : PhysicalLine) (none : None ≡ first_spot old.to
             (subst (λ (all : List Item). AreModules [] all (old.modules.items ++ old.statements.items ∷ more)) (all_behind lexed rest (period line)) all);
       }
 
-module _ {T : Type 0} (r : Result T ProgramError) (old new : Reader) (line : PhysicalLine) (e : begins_with_period line.text ≡ true) where
+module _ {T : Type 0} (r : Result T ProgramError) (old new : Reader) (line : PlacedLine) (e : begins_with_period line.text ≡ true) where
   is_period : IsLexed line (period line ∷ [])
   is_period = rw e refl
 
@@ -159,7 +159,7 @@ joined : {A : Type 0} (a b c d : List A) (x : A) → ((a ++ b) ++ x ∷ []) ++ (
 joined a b c d x = simp append_assoc
 
 -- something is refused at a token of a line
-pub refused_among : (old read : Reader) (line : PhysicalLine) (tokens front others : List Token) (t : Token) (error : ProgramError) → front ++ t ∷ others ≡ tokens → IsLexed line (map token tokens)
+pub refused_among : (old read : Reader) (line : PlacedLine) (tokens front others : List Token) (t : Token) (error : ProgramError) → front ++ t ∷ others ≡ tokens → IsLexed line (map token tokens)
     → ReadsOn old (map token front) read → Refuses read (token t ∷ []) error → RefusesLine old line error
 refused_among old read line tokens front others t Memory e is on r = tt
 refused_among old read line tokens front others t (BadSyntax spot) e is on r =
@@ -178,11 +178,11 @@ pub reads_none : (old : Reader) → ReadsOn old [] old
 reads_none old lexed to = subst (λ (all : List Lexed). ReadTo all old) (sym (append-nil lexed)) to
 
 -- what a line that begins with no period has
-pub is_tokens : (line : PhysicalLine) (spot : Spot) (text : List ℕ) (old new tokens : List Token) → begins_with_period line.text ≡ false → AppendsTokens spot text old new
-    → spot ≡ spot_of line → text ≡ line.text → old ≡ [] → tokens ≡ new → IsLexed line (map token tokens)
+pub is_tokens : (line : PlacedLine) (spot : Spot) (text : List ℕ) (old new tokens : List Token) → begins_with_period line.text ≡ false → AppendsTokens spot text old new
+    → spot ≡ line.spot → text ≡ line.text → old ≡ [] → tokens ≡ new → IsLexed line (map token tokens)
 is_tokens line spot text old new tokens e h s t o n =
     let all : tokens ≡ h.tokens = n ∙ h.appended ∙ ap (λ (front : List Token). front ++ h.tokens) o in
-    let are : AreTokens (spot_of line) line.text h.tokens = subst (λ (x : List ℕ). AreTokens (spot_of line) x h.tokens) t (subst (λ (x : Spot). AreTokens x text h.tokens) s h.are_tokens) in
+    let are : AreTokens line.spot line.text h.tokens = subst (λ (x : List ℕ). AreTokens line.spot x h.tokens) t (subst (λ (x : Spot). AreTokens x text h.tokens) s h.are_tokens) in
     rw (e, all) (h.tokens, are, refl)
 
 -- a further token of a right side

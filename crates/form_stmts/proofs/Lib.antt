@@ -1,3 +1,4 @@
+pub mod Ascii
 pub mod Excluded
 pub mod Fronts
 pub mod Going

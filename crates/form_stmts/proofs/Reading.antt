@@ -1,7 +1,7 @@
 -- Lines are read in one way.
 use Rattle.std.proofs.Common.{◌≡◌, ◌⊎◌, inl, inr, ℕ, List, [], subst}
 use Rattle.form_base.specs.declared.spot.Spot.{Spot}
-use Rattle.form_lines.specs.Text.{PhysicalLine}
+use Rattle.form_stmts.specs.Line.{PlacedLine}
 use Rattle.form_lexer.specs.declared.token.Token.{Token}
 use Rattle.form_lexer.specs.Tokens.{AreTokens}
 use Rattle.form_ast.specs.declared.statement.Placed.{Placed}
@@ -14,7 +14,7 @@ use Rattle.form_stmts.proofs.Unique.{IsOne, IsOrNot, all_lexed, one_statement, s
 
 -- what is read of lines, where some line has tokens
 pub some : ((spot : Spot) (text : List ℕ) → (tokens : List Token) × AreTokens spot text tokens) → ((terminals : List Terminal) → IsOne (IsExpr terminals)) → ((terminals : List Terminal) → IsOrNot (IsExpr terminals))
-    → (lines : List PhysicalLine) → ((modules : List (List Placed)) × IsProgram lines modules) ⊎ ((spot : Spot) × IsRefused lines spot)
+    → (lines : List PlacedLine) → ((modules : List (List Placed)) × IsProgram lines modules) ⊎ ((spot : Spot) × IsRefused lines spot)
 some tokens one or_not lines = by_items (lines_lexed tokens lines) where
   by_items : (lexed : List Lexed) × AreLexed lines lexed → ((modules : List (List Placed)) × IsProgram lines modules) ⊎ ((spot : Spot) × IsRefused lines spot)
   by_items l = by_both (one_of_both (one_statement one or_not) (statement_or_not one or_not) (items [] l.0) []) where
@@ -23,7 +23,7 @@ some tokens one or_not lines = by_items (lines_lexed tokens lines) where
     by_both (inr r) = inr (r.0, record { lexed = l.0; are_lexed = l.1; refused = r.1 })
 
 module _ (one_list : (spot : Spot) (text : List ℕ) (tokens others : List Token) → AreTokens spot text tokens → AreTokens spot text others → tokens ≡ others)
-    (one : (terminals : List Terminal) → IsOne (IsExpr terminals)) (or_not : (terminals : List Terminal) → IsOrNot (IsExpr terminals)) (lines : List PhysicalLine) where
+    (one : (terminals : List Terminal) → IsOne (IsExpr terminals)) (or_not : (terminals : List Terminal) → IsOrNot (IsExpr terminals)) (lines : List PlacedLine) where
   pub one_program : (modules others : List (List Placed)) → IsProgram lines modules → IsProgram lines others → modules ≡ others
   one_program modules others h k =
       unique.one_program (one_statement one or_not) (statement_or_not one or_not) (items [] k.lexed) [] modules others

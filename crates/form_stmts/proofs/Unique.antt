@@ -3,7 +3,7 @@ use Rattle.std.proofs.Common.{◌≡◌, ◌⊎◌, inl, inr, ℕ, Bool, true, f
 use Rattle.std.specs.Prelude.{MatchBool}
 use Rattle.std.proofs.lemmas.Option.{same_Some, none-some}
 use Rattle.form_base.specs.declared.spot.Spot.{Spot}
-use Rattle.form_lines.specs.Text.{PhysicalLine}
+use Rattle.form_stmts.specs.Line.{PlacedLine}
 use Rattle.form_lexer.specs.declared.token.Token.{Token}
 use Rattle.form_lexer.specs.Tokens.{AreTokens}
 use Rattle.form_ast.specs.declared.expr.Spelled.{Spelled}
@@ -21,7 +21,7 @@ use Rattle.form_stmts.specs.Instruction.{begins_with_period, is_module_instructi
 use Rattle.form_stmts.specs.Keyword.{keyword_of}
 use Rattle.form_stmts.specs.Reading.{front_name, after_equals}
 use Rattle.form_stmts.specs.Statement.{AreNames, AreNamesOrNone, IsDefinition, FollowsKeyword, IsStatement}
-use Rattle.form_stmts.specs.Program.{Lexed, token, period, Item, statement, unfinished, instruction, spot_of, IsLexed, AreLexed, StandsAt, IsRefusedAt, AreModules}
+use Rattle.form_stmts.specs.Program.{Lexed, token, period, Item, statement, unfinished, instruction, IsLexed, AreLexed, StandsAt, IsRefusedAt, AreModules}
 use Rattle.form_stmts.proofs.Listed.{one_list, one_list_or_none, names_or_not, names_or_none_or_not}
 use Rattle.form_stmts.proofs.Excluded.{right_side}
 
@@ -208,18 +208,18 @@ module _ (one : (terminals : List Terminal) → IsOne (IsStatement terminals)) (
         → ((modules : List (List Placed)) × AreModules begun (instruction line ∷ list) modules) ⊎ ((spot : Spot) × IsRefusedAt (instruction line ∷ list) spot)
     by_test true e (inl p) = inl (begun ∷ p.0, (e, p.0, refl, p.1))
     by_test true e (inr r) = inr (r.0, inr (e, r.1))
-    by_test false e rest = inr (spot_of line, inl ((λ h. let f : false ≡ true = sym e ∙ h in absurd cc), refl))
+    by_test false e rest = inr (line.spot, inl ((λ h. let f : false ≡ true = sym e ∙ h in absurd cc), refl))
 
 -- lines have one thing
 module _ (one_list_of_tokens : (spot : Spot) (text : List ℕ) (tokens others : List Token) → AreTokens spot text tokens → AreTokens spot text others → tokens ≡ others) where
-  one_lexed : (line : PhysicalLine) → IsOne (IsLexed line)
+  one_lexed : (line : PlacedLine) → IsOne (IsLexed line)
   one_lexed line x y h k = by_test (begins_with_period line.text) h k where
-    by_test : (b : Bool) → MatchBool b (x ≡ period line ∷ []) ((tokens : List Token) × AreTokens (spot_of line) line.text tokens × (x ≡ map token tokens))
-        → MatchBool b (y ≡ period line ∷ []) ((tokens : List Token) × AreTokens (spot_of line) line.text tokens × (y ≡ map token tokens)) → x ≡ y
+    by_test : (b : Bool) → MatchBool b (x ≡ period line ∷ []) ((tokens : List Token) × AreTokens line.spot line.text tokens × (x ≡ map token tokens))
+        → MatchBool b (y ≡ period line ∷ []) ((tokens : List Token) × AreTokens line.spot line.text tokens × (y ≡ map token tokens)) → x ≡ y
     by_test true h k = h ∙ sym k
-    by_test false h k = h.2 ∙ ap (λ (tokens : List Token). map token tokens) (one_list_of_tokens (spot_of line) line.text h.0 k.0 h.1 k.1) ∙ sym k.2
+    by_test false h k = h.2 ∙ ap (λ (tokens : List Token). map token tokens) (one_list_of_tokens line.spot line.text h.0 k.0 h.1 k.1) ∙ sym k.2
 
-  pub all_lexed : (lines : List PhysicalLine) → IsOne (AreLexed lines)
+  pub all_lexed : (lines : List PlacedLine) → IsOne (AreLexed lines)
   all_lexed [] x y h k = h ∙ sym k
   all_lexed (line ∷ lines) x y h k =
       h.4 ∙ ap (λ (here : List Lexed). here ++ h.2) (one_lexed line h.0 k.0 h.1 k.1) ∙ ap (λ (rest : List Lexed). k.0 ++ rest) (all_lexed lines h.2 k.2 h.3 k.3) ∙ sym k.4

@@ -1,7 +1,7 @@
 -- The modules of lines, and where lines are refused.
 use Rattle.std.specs.Prelude.{◌≡◌, ◌⊎◌, List, [], ◌∷◌, ◌++◌, map, Bool, true, false, IsTrue, Option, Some, None, MatchBool, if◌then◌else◌}
 use Rattle.form_base.specs.declared.spot.Spot.{Spot}
-use Rattle.form_lines.specs.Text.{PhysicalLine}
+use Rattle.form_stmts.specs.Line.{PlacedLine}
 use Rattle.form_lexer.specs.declared.mark.Mark as marks
 use Rattle.form_lexer.specs.declared.mark.Mark.TheVariants as by_mark
 use Rattle.form_lexer.specs.declared.token.Token.{Token}
@@ -19,19 +19,16 @@ use Rattle.form_stmts.specs.Statement.{IsStatement}
 -- what lines have in order: tokens, and lines that begin with a period
 pub data Lexed : Type 0 where
   token : Token → Lexed
-  period : PhysicalLine → Lexed
-
-abbrev pub spot_of : PhysicalLine → Spot
-spot_of line = record { text = 0; line = line.number }
+  period : PlacedLine → Lexed
 
 -- this is what a line has
-abbrev pub IsLexed : PhysicalLine → List Lexed → Type 0
+abbrev pub IsLexed : PlacedLine → List Lexed → Type 0
 IsLexed line lexed = MatchBool (begins_with_period line.text)
     (lexed ≡ period line ∷ [])
-    ((tokens : List Token) × AreTokens (spot_of line) line.text tokens × (lexed ≡ map token tokens))
+    ((tokens : List Token) × AreTokens line.spot line.text tokens × (lexed ≡ map token tokens))
 
 -- this is what lines have
-abbrev pub AreLexed : List PhysicalLine → List Lexed → Type 0
+abbrev pub AreLexed : List PlacedLine → List Lexed → Type 0
 AreLexed [] lexed = lexed ≡ []
 AreLexed (line ∷ lines) lexed = (here : List Lexed) × IsLexed line here × (rest : List Lexed) × AreLexed lines rest × (lexed ≡ here ++ rest)
 
@@ -40,7 +37,7 @@ AreLexed (line ∷ lines) lexed = (here : List Lexed) × IsLexed line here × (r
 pub data Item : Type 0 where
   statement : List Token → Item
   unfinished : Token → List Token → Item
-  instruction : PhysicalLine → Item
+  instruction : PlacedLine → Item
 
 abbrev pub is_semicolon_mark : marks.Mark → Bool
 is_semicolon_mark by_mark.Semicolon = true
@@ -80,7 +77,7 @@ abbrev pub StandsAt : Item → Spot → Type 0
 StandsAt (statement []) spot = ⊥
 StandsAt (statement (t ∷ ts)) spot = t.spot ≡ spot
 StandsAt (unfinished t ts) spot = t.spot ≡ spot
-StandsAt (instruction line) spot = spot_of line ≡ spot
+StandsAt (instruction line) spot = line.spot ≡ spot
 
 -- items are refused at this spot: there stands the first that isn't in the grammar
 abbrev pub IsRefusedAt : List Item → Spot → Type 0
@@ -88,7 +85,7 @@ IsRefusedAt [] spot = ⊥
 IsRefusedAt (item ∷ others) spot = ((IsInGrammar item → ⊥) × StandsAt item spot) ⊎ (IsInGrammar item × IsRefusedAt others spot)
 
 -- The lines are refused at this spot.
-pub record IsRefused (lines : List PhysicalLine) (spot : Spot) : Type 0 where
+pub record IsRefused (lines : List PlacedLine) (spot : Spot) : Type 0 where
   pub lexed : List Lexed
   pub are_lexed : AreLexed lines lexed
   pub refused : IsRefusedAt (items [] lexed) spot
@@ -105,12 +102,12 @@ AreModules begun (instruction line ∷ others) modules =
     IsTrue (is_module_instruction line.text) × (rest : List (List Placed)) × (modules ≡ begun ∷ rest) × AreModules [] others rest
 
 -- The lines are a program of these modules.
-pub record IsProgram (lines : List PhysicalLine) (modules : List (List Placed)) : Type 0 where
+pub record IsProgram (lines : List PlacedLine) (modules : List (List Placed)) : Type 0 where
   pub lexed : List Lexed
   pub are_lexed : AreLexed lines lexed
   pub are_modules : AreModules [] (items [] lexed) modules
 
 -- where lines are refused; want of memory is free
-abbrev pub IsRefusal : ProgramError → List PhysicalLine → Type 0
+abbrev pub IsRefusal : ProgramError → List PlacedLine → Type 0
 IsRefusal (BadSyntax spot) lines = IsRefused lines spot
 IsRefusal Memory lines = Unit {0}

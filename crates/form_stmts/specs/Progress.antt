@@ -1,7 +1,7 @@
 -- What reading a program has come to, and what that means whatever follows.
 use Rattle.std.specs.Prelude.{◌≡◌, List, [], ◌∷◌, ◌++◌, map}
 use Rattle.form_base.specs.declared.spot.Spot.{Spot}
-use Rattle.form_lines.specs.Text.{PhysicalLine}
+use Rattle.form_stmts.specs.Line.{PlacedLine}
 use Rattle.form_lexer.specs.declared.token.Token.{Token}
 use Rattle.form_ast.specs.declared.statement.Statement.{Statement}
 use Rattle.form_ast.specs.declared.statement.Placed.{Placed}
@@ -35,7 +35,7 @@ Refuses old here Memory = Unit {0}
 Refuses old here (BadSyntax spot) = (lexed rest : List Lexed) → ReadTo lexed old → IsRefusedAt (items [] (lexed ++ here ++ rest)) spot
 
 -- a reader meets in this line what is refused
-abbrev pub RefusesLine : Reader → PhysicalLine → ProgramError → Type 0
+abbrev pub RefusesLine : Reader → PlacedLine → ProgramError → Type 0
 RefusesLine old line Memory = Unit {0}
 RefusesLine old line (BadSyntax spot) = (here : List Lexed) × IsLexed line here × Refuses old here (BadSyntax spot)
 

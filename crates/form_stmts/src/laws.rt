@@ -2,20 +2,20 @@
 
 ghost use Rattle.std.specs.Prelude.{◌≡◌, ◌⊎◌, List};
 ghost use Rattle.form_base.specs.declared.spot.Spot.{Spot};
-ghost use Rattle.form_lines.specs.Text.{PhysicalLine};
+ghost use Rattle.form_stmts.specs.Line.{PlacedLine};
 ghost use Rattle.form_ast.specs.declared.statement.Placed.{Placed};
 ghost use Rattle.form_ast.specs.Lawful.{AreLawfulModules};
 ghost use Rattle.form_stmts.specs.Program.{IsProgram, IsRefused};
 
 /// Lines are a program, in one way, or refused, at one spot.
 pub fn one_reading()
-    ensures some { (lines : List PhysicalLine) →
+    ensures some { (lines : List PlacedLine) →
         ((modules : List (List Placed)) × IsProgram lines modules) ⊎ ((spot : Spot) × IsRefused lines spot) }
-    ensures one_program { (lines : List PhysicalLine) (modules others : List (List Placed)) →
+    ensures one_program { (lines : List PlacedLine) (modules others : List (List Placed)) →
         IsProgram lines modules → IsProgram lines others → modules ≡ others }
-    ensures one_refusal { (lines : List PhysicalLine) (spot other : Spot) →
+    ensures one_refusal { (lines : List PlacedLine) (spot other : Spot) →
         IsRefused lines spot → IsRefused lines other → spot ≡ other }
-    ensures never_both { (lines : List PhysicalLine) (modules : List (List Placed)) (spot : Spot) →
+    ensures never_both { (lines : List PlacedLine) (modules : List (List Placed)) (spot : Spot) →
         IsProgram lines modules → IsRefused lines spot → ⊥ }
 {
     form_lexer::laws::one_list_of_tokens();
@@ -24,6 +24,6 @@ pub fn one_reading()
 
 /// The right sides of a program are lawful.
 pub fn right_sides_are_lawful()
-    ensures { (lines : List PhysicalLine) (modules : List (List Placed)) →
+    ensures { (lines : List PlacedLine) (modules : List (List Placed)) →
         IsProgram lines modules → AreLawfulModules modules }
 {}

@@ -5,12 +5,14 @@ mod error;
 mod instruction;
 mod keyword;
 pub mod laws;
+mod line;
 mod names;
 mod program;
 mod statement;
 
 pub use error::ProgramError;
 pub use keyword::Keyword;
+pub use line::Line;
 pub use program::read_program;
 
 #[cfg(test)]

@@ -1,16 +1,15 @@
 ghost use Rattle.std.specs.Prelude.{◌≡◌, List, [], ◌∷◌, IfErr, IfOk, OnOk, IsTrue, IsNone, None, Option};
 ghost use Rattle.form_ast.specs.Lawful.{AreLawfulModules};
-ghost use Rattle.form_stmts.specs.Program.{IsProgram, IsRefusal, IsLexed, Lexed, statement, token as lexed_token, period, is_semicolon as is_semicolon_token, spot_of, first_spot as first_spot_of};
-ghost use Rattle.form_lines.specs.Text.{PhysicalLine};
+ghost use Rattle.form_stmts.specs.Program.{IsProgram, IsRefusal, IsLexed, Lexed, statement, token as lexed_token, period, is_semicolon as is_semicolon_token, first_spot as first_spot_of};
+ghost use Rattle.form_stmts.specs.Line.{PlacedLine};
 
-use crate::ProgramError;
 use crate::instruction::{begins_with_period, is_module_instruction};
 use crate::statement::{begins_definition, read_begun};
+use crate::{Line, ProgramError};
 use form_ast::{Module, Placed};
 use form_base::Spot;
 use form_grammar::{ReadError, RightSide, Terminal};
 use form_lexer::{Mark, Token, TokenKind, laws, lex};
-use form_lines::Line;
 use std::alloc::Global;
 use std::mem;
 
@@ -96,7 +95,7 @@ impl Reader {
     }
 
     /// Ends the module that is begun, where the line is an instruction for that and no statement is begun.
-    fn take_instruction(&mut self, alloc: Global, line: &Line) -> Result<(), ProgramError>
+    fn take_instruction(&mut self, alloc: Global, line: &Line<'_>) -> Result<(), ProgramError>
         ensures read { OnOk result (ReadsOn self.old (period line.now ∷ []) self.new) }
         ensures refused { IfErr result (λ error. Refuses self.old (period line.now ∷ []) error) }
     {
@@ -104,14 +103,14 @@ impl Reader {
             return Err(ProgramError::BadSyntax(spot));
         }
         if !is_module_instruction(line.text().as_bytes()) {
-            return Err(ProgramError::BadSyntax(spot(line)));
+            return Err(ProgramError::BadSyntax(line.spot()));
         }
         let statements = mem::replace(&mut self.statements, Vec::new(alloc));
         self.modules.push(Module::from_vec(statements))?;
         Ok(())
     }
 
-    fn take_line(&mut self, alloc: Global, line: &Line) -> Result<(), ProgramError>
+    fn take_line(&mut self, alloc: Global, line: &Line<'_>) -> Result<(), ProgramError>
         ensures read { OnOk result ((here : List Lexed) × IsLexed line.now here × ReadsOn self.old here self.new) }
         ensures refused { IfErr result (λ error. RefusesLine self.old line.now error) }
     {
@@ -119,7 +118,7 @@ impl Reader {
             return self.take_instruction(alloc, line);
         }
         let mut tokens = Vec::new(alloc);
-        lex(alloc, spot(line), line.text(), &mut tokens)?;
+        lex(alloc, line.spot(), line.text(), &mut tokens)?;
         for token in tokens {
             self.take_token(alloc, token)?;
         }
@@ -127,22 +126,12 @@ impl Reader {
     }
 }
 
-/// Where the tokens of a line stand.
-fn spot(line: &Line) -> Spot
-    ensures { result ≡ spot_of line.now }
-{
-    Spot {
-        text: 0,
-        line: line.number(),
-    }
-}
-
 /// The modules of a program, up to the last instruction of its lines. The first refusal in the order of the text is
 /// answered.
-pub fn read_program(alloc: Global, lines: Vec<Line>) -> Result<Vec<Module>, ProgramError>
-    ensures program { IfOk result (λ modules. IsProgram lines.items modules.items) }
+pub fn read_program(alloc: Global, lines: Vec<Line<'_>>) -> Result<Vec<Module>, ProgramError>
+    ensures program { IfOk result (λ modules. IsProgram lines.entry.items modules.items) }
     ensures lawful { IfOk result (λ modules. AreLawfulModules modules.items) }
-    ensures refused { IfErr result (λ error. IsRefusal error lines.items) }
+    ensures refused { IfErr result (λ error. IsRefusal error lines.entry.items) }
 {
     laws::one_list_of_tokens();
     let mut reader = Reader::new(alloc);

@@ -1,10 +1,8 @@
 //! Programs against statements and spots that are written out by hand.
 
-ghost use Rattle.std.specs.Prelude.{◌<◌, ◌^◌, length};
-
-use crate::{ProgramError, read_program};
+use crate::{Line, ProgramError, read_program};
 use form_ast::{Module, Statement};
-use form_lines::read_lines;
+use form_base::Spot;
 use std::alloc::{AllocError, Global};
 use std::test::Fail;
 
@@ -34,12 +32,18 @@ fn letters(alloc: Global, modules: &[Module]) -> Result<String, AllocError> {
 }
 
 /// The letters of a program, or the line at which its text is refused.
-fn read(alloc: Global, text: &[u8]) -> Result<String, Fail>
-    requires { length text.now < 2 ^ 32 }
-{
-    let Ok(lines) = read_lines(alloc, text) else {
-        return Err(Fail::from("no lines"));
-    };
+fn read(alloc: Global, texts: &[&str]) -> Result<String, Fail> {
+    let mut lines = Vec::new(alloc);
+    for (index, text) in texts.iter().enumerate() {
+        let Ok(line) = u32::try_from(index + 1) else {
+            return Err(Fail::from("too many lines"));
+        };
+        if !text.is_ascii() {
+            return Err(Fail::from("no ASCII"));
+        }
+        let spot = Spot { text: 0, line };
+        lines.push(Line::new(spot, text.as_bytes()))?;
+    }
     match read_program(alloc, lines) {
         Ok(modules) => Ok(letters(alloc, &modules)?),
         Err(ProgramError::BadSyntax(spot)) => {
@@ -52,9 +56,16 @@ fn read(alloc: Global, text: &[u8]) -> Result<String, Fail>
 
 #[test]
 fn reads_programs(rt: HostRuntime) -> Result<(), Fail> {
-    let text =
-        b"Symbols x,y\n z;; L F = x\n +y^2;\n.sort: first\ndrop; SKIP F G;\nPrint F;\n\t.END ;";
-    assert_eq!(rt; read(rt.alloc(), text)?.as_str(), "s3l2.d0k2p1.");
+    let texts = [
+        "Symbols x,y",
+        " z;; L F = x",
+        " +y^2;",
+        ".sort: first",
+        "drop; SKIP F G;",
+        "Print F;",
+        "\t.END ;",
+    ];
+    assert_eq!(rt; read(rt.alloc(), &texts)?.as_str(), "s3l2.d0k2p1.");
     Ok(())
 }
 
@@ -62,14 +73,17 @@ fn reads_programs(rt: HostRuntime) -> Result<(), Fail> {
 fn refuses_the_first_by_place(rt: HostRuntime) -> Result<(), Fail> {
     let alloc = rt.alloc();
     assert_eq!(rt;
-        read(alloc, b"S x;\n\nL F = x\n *;\nPrint ,;\n.end")?.as_str(),
+        read(alloc, &["S x;", "", "L F = x", " *;", "Print ,;", ".end"])?.as_str(),
         "line 3"
     );
     assert_eq!(rt;
-        read(alloc, b"S x;\nPrint\n.sort\n.end")?.as_str(),
+        read(alloc, &["S x;", "Print", ".sort", ".end"])?.as_str(),
         "line 2"
     );
-    assert_eq!(rt; read(alloc, b"S x;\n.sort x\n.end")?.as_str(), "line 2");
-    assert_eq!(rt; read(alloc, b"Symbols;\n.end")?.as_str(), "line 1");
+    assert_eq!(rt;
+        read(alloc, &["S x;", ".sort x", ".end"])?.as_str(),
+        "line 2"
+    );
+    assert_eq!(rt; read(alloc, &["Symbols;", ".end"])?.as_str(), "line 1");
     Ok(())
 }

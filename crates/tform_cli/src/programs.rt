@@ -13,11 +13,14 @@ use std::thread::Threads;
 
 const SQUARE: &str = "Symbols x,y;\nLocal F = (x+y)^2;\nPrint;\n.end\n";
 
-/// Which device fails at its first call.
+const INCLUDES: &str = "#include xy.h\nLocal F = (x+y)^2;\nPrint;\n.end\n";
+
+/// Which device fails, at its first call or its second.
 #[derive(Clone, Copy, PartialEq, Eq)]
 enum Failing {
     Nothing,
     Fetch,
+    SecondFetch,
     Put,
 }
 
@@ -29,14 +32,17 @@ struct Answered {
     is_finished: bool,
 }
 
-/// A library that has the text `p.frm`.
+/// A library that has the text `p.frm`, and one that declares x and y.
 fn library_of(alloc: Global, text: &str, failing: Failing) -> Result<MemLibrary, AllocError>
     ensures { IfOk result (λ library. library_faults library ≡ 0) }
 {
     let mut library = MemLibrary::new(alloc);
     library.insert("p.frm", text.as_bytes())?;
-    if failing == Failing::Fetch {
-        library.fail_at(1)?;
+    library.insert("xy.h", b"Symbols x,y;\n")?;
+    match failing {
+        Failing::Fetch => library.fail_at(1)?,
+        Failing::SecondFetch => library.fail_at(2)?,
+        Failing::Nothing | Failing::Put => {}
     }
     Ok(library)
 }
@@ -135,6 +141,28 @@ fn no_file_is_usage(rt: HostRuntime) -> Result<(), Fail> {
 fn a_failed_fetch_is_a_fault(rt: HostRuntime) -> Result<(), Fail> {
     let alloc = rt.alloc();
     let answered = answer_to(&rt, alloc, &["tform", "p.frm"], SQUARE, Failing::Fetch)?;
+    assert!(rt; answered.bytes.is_empty());
+    assert_eq!(rt; answered.code, 5);
+    Ok(())
+}
+
+#[test]
+fn an_included_text_is_fetched(rt: HostRuntime) -> Result<(), Fail> {
+    let printed = "\n   F =\n      y^2 + 2*x*y + x^2;\n\n";
+    assert!(rt; gives(&rt, rt.alloc(), INCLUDES, printed, 0)?);
+    Ok(())
+}
+
+#[test]
+fn a_failed_fetch_of_an_included_text_is_a_fault(rt: HostRuntime) -> Result<(), Fail> {
+    let alloc = rt.alloc();
+    let answered = answer_to(
+        &rt,
+        alloc,
+        &["tform", "p.frm"],
+        INCLUDES,
+        Failing::SecondFetch,
+    )?;
     assert!(rt; answered.bytes.is_empty());
     assert_eq!(rt; answered.code, 5);
     Ok(())

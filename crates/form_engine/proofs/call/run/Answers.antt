@@ -1,13 +1,13 @@
-use Rattle.std.proofs.Common.{◌≡◌, ◌<◌, ◌≤◌, ℕ, List, Some, None, Ok, ap, sym, ◌∙◌, refl, arith}
+use Rattle.std.proofs.Common.{◌≡◌, ◌<◌, ◌≤◌, ℕ, List, Some, None, Ok, ap, sym, ◌∙◌, refl}
 use Rattle.std.proofs.lemmas.Result.{err_from_is_err_and}
 use Rattle.form_base.specs.Status.{code_of}
 use Rattle.form_base.specs.declared.status.Status.{Status}
-use Rattle.form_base.specs.declared.status.Status.TheVariants.{Usage, Missing, TextTooLong}
+use Rattle.form_base.specs.declared.status.Status.TheVariants.{Usage, Missing}
 use Rattle.form_engine.specs.Call.{bytes_of_words}
 use Rattle.form_engine.specs.Stop.{status_of}
 use Rattle.form_engine.specs.Words.{file_of}
 use Rattle.form_engine.specs.declared.answer.Answer.{Answer}
-use Rattle.form_engine.proofs.Answered.{refused_status, never_usage, never_missing, never_too_long, answered_code, of_finished, finish_stop}
+use Rattle.form_engine.proofs.Answered.{refused_status, never_usage, never_missing, answered_code, of_finished, finish_stop}
 use Rattle.form_engine.proofs.Carried.{stopped_before, finished, decided_status, library_stop}
 use Rattle.form_engine.proofs.Concluded.{Decided}
 use Rattle.form_engine.proofs.call.run.Goals as goal
@@ -51,9 +51,3 @@ returns-clause-missing_file g c =
     let carried = c.in_ok-status.ensures.carried in
     of_finished (λ (status : Status). (name : List ℕ) → status ≡ Missing name → file_of (bytes_of_words c.args.words.now) ≡ Some name) (g.O.Sink.taken c.carry_out.new.out) (g.O.Sink.taken c.finish.new.out) c.in_ok-status.status c.finish.result c.finish.ensures.carried
     (λ name e. c.in_ok-answer.ensures.missing name (ap Ok (refused_status c.in_ok-answer.answer carried.0 (Missing name) carried.1 (sym carried.2.1 ∙ e) (never_missing name))))
-
-pub returns-clause-too_long_file : goal.returns-clause-too_long_file
-returns-clause-too_long_file g c =
-    let carried = c.in_ok-status.ensures.carried in
-    of_finished (λ (status : Status). (name : List ℕ) → status ≡ TextTooLong name → file_of (bytes_of_words c.args.words.now) ≡ Some name) (g.O.Sink.taken c.carry_out.new.out) (g.O.Sink.taken c.finish.new.out) c.in_ok-status.status c.finish.result c.finish.ensures.carried
-    (λ name e. c.in_ok-answer.ensures.too_long name (ap Ok (refused_status c.in_ok-answer.answer carried.0 (TextTooLong name) carried.1 (sym carried.2.1 ∙ e) (never_too_long name))))

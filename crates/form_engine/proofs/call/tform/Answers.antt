@@ -1,6 +1,6 @@
 use Rattle.std.proofs.Common.{◌<◌, arith}
 use Rattle.form_engine.specs.Call.{bytes_of_words}
-use Rattle.form_engine.proofs.Concluded.{only_memory, carried_out_or_memory, text_refusal}
+use Rattle.form_engine.proofs.Concluded.{only_memory, carried_out_or_memory, text_refusal, too_long_refusal}
 use Rattle.form_engine.proofs.Named.{missing_text, too_long_text}
 use Rattle.form_engine.proofs.call.tform.Goals as goal
 
@@ -18,3 +18,6 @@ returns-in-Ok-clause-too_long g c = too_long_text (bytes_of_words c.args.words.n
 
 pub returns-in-Ok-clause-refused_text : goal.returns-in-Ok-clause-refused_text
 returns-in-Ok-clause-refused_text g c = text_refusal (bytes_of_words c.args.words.now) (g.L.Library.texts c.args.library.now) c.in-Ok.status c.in-Ok.ensures.decided
+
+pub returns-in-Ok-clause-too_long_text : goal.returns-in-Ok-clause-too_long_text
+returns-in-Ok-clause-too_long_text g c = too_long_refusal (bytes_of_words c.args.words.now) (g.L.Library.texts c.args.library.now) c.in-Ok.status c.in-Ok.ensures.decided

@@ -1,11 +1,5 @@
 use Rattle.std.proofs.Common.{rules, ◌+◌, ap, ◌∙◌, Err}
 use Rattle.std.proofs.lemmas.Result.{err_from_is_err_and}
-use Rattle.form_base.specs.declared.status.Status.TheVariants.{Done}
-use Rattle.form_expand.specs.declared.stored.Stored.{Stored}
-use Rattle.form_module.specs.Module.{HaveTrees}
-use Rattle.form_outside.specs.Taken.{Takes}
-use Rattle.form_outside.specs.declared.sink.SinkErr.{SinkErr}
-use Rattle.form_engine.specs.Printed.{printed_module}
 use Rattle.form_engine.specs.Stop.{stop_of_sink}
 use Rattle.form_engine.proofs.Going.{program_has, here_have, rest_have, going_on, gone, stopped_by, stopped_printing}
 use Rattle.form_engine.proofs.carry.carry_out.Goals as goal

@@ -1,9 +1,8 @@
-use Rattle.std.proofs.Common.{◌≡◌, subst, sym, Err}
+use Rattle.std.proofs.Common.{subst, sym, Err}
 use Rattle.std.proofs.lemmas.Result.{err_from_is_err_and}
 use Rattle.form_base.specs.declared.status.Status.{Status}
 use Rattle.form_module.specs.declared.error.ModuleError.{ModuleError}
 use Rattle.form_outside.specs.Taken.{Takes}
-use Rattle.form_outside.specs.declared.sink.SinkErr.{SinkErr}
 use Rattle.form_outside.proofs.Written.{Takes_error}
 use Rattle.form_engine.specs.Answer.{Stops}
 use Rattle.form_engine.specs.Outcome.{refused}

@@ -3,6 +3,8 @@ use Rattle.form_engine.proofs.laws.one_outcome.Goals as goal
 
 pub returns-clause-some : goal.returns-clause-some
 returns-clause-some c = some_outcome (record {
+  some_expansion = c.one_expansion.ensures.some;
+  one_expansion = c.one_expansion.ensures.unique;
   some_reading = c.one_reading.ensures.some;
   one_program = c.one_reading.ensures.one_program;
   one_refusal = c.one_reading.ensures.one_refusal;
@@ -15,6 +17,8 @@ returns-clause-some c = some_outcome (record {
 
 pub returns-clause-unique : goal.returns-clause-unique
 returns-clause-unique c = unique_outcome (record {
+  some_expansion = c.one_expansion.ensures.some;
+  one_expansion = c.one_expansion.ensures.unique;
   some_reading = c.one_reading.ensures.some;
   one_program = c.one_reading.ensures.one_program;
   one_refusal = c.one_reading.ensures.one_refusal;

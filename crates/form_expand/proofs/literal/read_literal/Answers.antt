@@ -30,4 +30,4 @@ loop-read-preserved c = λ max all.
     read_taken max all ps piece c.loop-read.literal c.take.new.self read rest on (c.in_ok-take.ensures (ap Ok c.if-not-branch.false)) (c.loop-read.invariant max all)
 
 pub returns : goal.returns
-returns c = λ max all. literal_last max all c.args.pieces.now c.loop-read.literal c.loop-read.read (c.loop-read.invariant max all) (omega (arith, c.requires, c.loop-read-test.false)) c.loop-read-test.false
+returns c = λ max all. literal_last max all c.args.pieces.now c.loop-read.literal c.loop-read.read (c.loop-read.invariant max all) c.requires c.loop-read-test.false

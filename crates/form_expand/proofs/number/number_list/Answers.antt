@@ -1,6 +1,5 @@
-use Rattle.std.proofs.Common.{◌≡◌, ◌<◌, ◌≤◌, nat_abs, refl, sym, ap, ◌∙◌, arith, w32}
+use Rattle.std.proofs.Common.{sym, arith, w32}
 use Rattle.std.proofs.lemmas.Int.{to_z-of_z}
-use Rattle.form_expand.specs.Numbers.{of_fraction}
 use Rattle.form_expand.proofs.NumberLists.{number_of_none, number_too_large, number_made}
 use Rattle.form_expand.proofs.number.number_list.Goals as goal
 

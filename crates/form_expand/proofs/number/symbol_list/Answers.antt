@@ -1,4 +1,4 @@
-use Rattle.std.proofs.Common.{◌≡◌, ◌<◌, ◌≤◌, leb, true, false, nat_abs, refl, arith, w32}
+use Rattle.std.proofs.Common.{nat_abs, refl, arith, w32}
 use Rattle.std.proofs.lemmas.Bool.{lt-leb, le-leb}
 use Rattle.std.proofs.lemmas.Int.{to_z-of_z}
 use Rattle.form_term.specs.Term.{largest_exponent}

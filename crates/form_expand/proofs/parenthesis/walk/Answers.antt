@@ -1,7 +1,6 @@
-use Rattle.std.proofs.Common.{◌+◌, refl, ap, ◌∙◌, length}
+use Rattle.std.proofs.Common.{◌+◌, ap, ◌∙◌}
 use Rattle.std.specs.Prelude.{None, Some}
 use Rattle.std.proofs.lemmas.Result.{err_from_is_err_and}
-use Rattle.form_expand.specs.Kept.{rest_at}
 use Rattle.form_expand.specs.Left.{times_by}
 use Rattle.form_expand.specs.Walks.{all_of, terms_left}
 use Rattle.form_expand.proofs.Places.{begins_at}

@@ -1,5 +1,5 @@
-use Rattle.std.proofs.Common.{◌≡◌, ◌+◌, ◌≤◌, refl, sym, ap, ◌∙◌, arith, drop}
-use Rattle.form_expand.specs.Closings.{closing_at, deep_behind}
+use Rattle.std.proofs.Common.{◌+◌, sym, ap, ◌∙◌, arith, drop}
+use Rattle.form_expand.specs.Closings.{closing_at}
 use Rattle.form_expand.proofs.Places.{drop_here, drop_past}
 use Rattle.form_expand.proofs.Parenthesized.{closing_here, closing_on, closing_none, deep_most}
 use Rattle.form_expand.proofs.reader.closing.Goals as goal

@@ -1,7 +1,7 @@
-use Rattle.std.proofs.Common.{◌≡◌, ◌+◌, ◌<◌, ◌∷◌, length, refl, sym, ap, ◌∙◌, arith, map, true, false}
+use Rattle.std.proofs.Common.{◌∷◌, refl, sym, ap, ◌∙◌, arith, map}
 use Rattle.form_expand.specs.Factors.{factor_whole}
 use Rattle.form_expand.specs.Reading.{read_from}
-use Rattle.form_expand.specs.Readers.{in_product, joined, EndsProduct}
+use Rattle.form_expand.specs.Readers.{in_product}
 use Rattle.form_expand.proofs.Parenthesized.{joined_same, ends_here, ends_empty}
 use Rattle.form_expand.proofs.reader.read_on.Goals as goal
 

@@ -1,4 +1,4 @@
-use Rattle.std.proofs.Common.{◌≡◌, ◌+◌, ◌-◌, ◌++◌, ◌∷◌, [], false, refl, sym, ap, ◌∙◌, arith, map, take, drop}
+use Rattle.std.proofs.Common.{◌≡◌, ◌-◌, ◌++◌, ◌∷◌, [], false, sym, ap, ◌∙◌, arith, map, take, drop}
 use Rattle.form_expand.specs.Factors.{factor_whole}
 use Rattle.form_expand.specs.Listing.{powers}
 use Rattle.form_expand.specs.Reading.{fresh, read_from, list_of_pieces}

@@ -1,7 +1,7 @@
-use Rattle.std.proofs.Common.{◌≡◌, ◌∷◌, [], false, refl, sym, ap, ◌∙◌, map}
+use Rattle.std.proofs.Common.{[], false, ap, ◌∙◌, map}
 use Rattle.std.proofs.lemmas.List.{nil_from_length}
 use Rattle.form_expand.specs.Factors.{factor_whole}
-use Rattle.form_expand.specs.Readers.{is_minus_piece, IsRead}
+use Rattle.form_expand.specs.Readers.{is_minus_piece}
 use Rattle.form_expand.specs.Reading.{list_of_pieces}
 use Rattle.form_expand.proofs.Behind.{read_ends}
 use Rattle.form_expand.proofs.Parenthesized.{read_first}

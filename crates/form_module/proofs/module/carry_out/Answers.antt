@@ -1,4 +1,4 @@
-use Rattle.std.proofs.Common.{◌∙◌, sym}
+use Rattle.std.proofs.Common.{◌∙◌}
 use Rattle.form_module.proofs.Carried.{begin, more, refused, done}
 use Rattle.form_module.proofs.module.carry_out.Goals as goal
 

@@ -1,13 +1,13 @@
 use Rattle.std.proofs.Common.{◌++◌, ◌∷◌, [], sym, ap, ◌∙◌, append_assoc, List}
 use Rattle.std.specs.Vec.Iter.{into_iter_items}
 use Rattle.std.proofs.lemmas.Result.{err_from_is_err_and}
-use Rattle.form_lines.specs.Text.{PhysicalLine}
+use Rattle.form_stmts.specs.Line.{PlacedLine}
 use Rattle.form_stmts.proofs.Lines.{nothing_left, reads_line, refused_at_line, program_read, lawful_read}
 use Rattle.form_stmts.proofs.program.read_program.Goals as goal
 
 pub loop-line-preserved : goal.loop-line-preserved
 loop-line-preserved c = record {
-  split = append_assoc c.loop-line.yielded (c.in-Some.line ∷ []) (into_iter_items c.next.new.self) ∙ ap (λ (rest : List PhysicalLine). c.loop-line.yielded ++ rest) (sym c.in-Some.ensures.steps.0) ∙ c.loop-line.invariant.split;
+  split = append_assoc c.loop-line.yielded (c.in-Some.line ∷ []) (into_iter_items c.next.new.self) ∙ ap (λ (rest : List PlacedLine). c.loop-line.yielded ++ rest) (sym c.in-Some.ensures.steps.0) ∙ c.loop-line.invariant.split;
   read = reads_line c.loop-line.yielded c.in-Some.line c.loop-line.reader c.take_line.new.self c.loop-line.invariant.read c.in_ok-take_line.ensures.read;
 }
 
@@ -16,7 +16,7 @@ returns-in_err-take_line-clause-refused c =
     let p = err_from_is_err_and c.from_residual.result c.from_residual.ensures.1 in
     rw (p.1, p.2)
     (refused_at_line c.one_list_of_tokens.ensures.some c.args.lines.items c.loop-line.yielded (into_iter_items c.next.new.self) c.in-Some.line c.loop-line.reader _
-    (ap (λ (rest : List PhysicalLine). c.loop-line.yielded ++ rest) (sym c.in-Some.ensures.steps.0) ∙ c.loop-line.invariant.split)
+    (ap (λ (rest : List PlacedLine). c.loop-line.yielded ++ rest) (sym c.in-Some.ensures.steps.0) ∙ c.loop-line.invariant.split)
     c.loop-line.invariant.read c.in_err-take_line.ensures.refused)
 
 pub returns-clause-program : goal.returns-clause-program

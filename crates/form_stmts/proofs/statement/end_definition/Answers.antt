@@ -3,7 +3,7 @@ use Rattle.form_grammar.specs.Grammar.{IsExpr}
 use Rattle.form_grammar.specs.Terminal.{terminal_of}
 use Rattle.form_stmts.specs.Statement.{IsStatement}
 use Rattle.form_stmts.proofs.Excluded.{excluded}
-use Rattle.form_stmts.proofs.Fronts.{front_from, definition_from, right_side_of}
+use Rattle.form_stmts.proofs.Fronts.{front_from, right_side_of}
 use Rattle.form_stmts.proofs.statement.end_definition.Goals as goal
 
 pub returns-clause-none : goal.returns-clause-none

@@ -1,5 +1,4 @@
 use Rattle.std.proofs.Common.{refl, ap, ◌∙◌}
-use Rattle.form_expand.specs.Kept.{listing}
 use Rattle.form_expand.specs.Listing.{powers, limited, single}
 use Rattle.form_expand.proofs.factor.Factor.new.Goals as goal
 

@@ -1,4 +1,4 @@
-use Rattle.std.proofs.Common.{◌≡◌, ◌≤◌, true, leb, nat_abs, arith, rules, w32, refl}
+use Rattle.std.proofs.Common.{◌≤◌, nat_abs, arith, w32, refl}
 use Rattle.std.proofs.lemmas.Bool.{le-leb}
 use Rattle.std.proofs.lemmas.Int.{to_z-of_z}
 use Rattle.form_term.specs.Term.{largest_exponent}

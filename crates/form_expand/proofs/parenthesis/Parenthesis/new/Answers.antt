@@ -1,4 +1,4 @@
-use Rattle.std.proofs.Common.{◌≡◌, suc, sym, ap, ◌∙◌}
+use Rattle.std.proofs.Common.{suc, sym, ap, ◌∙◌}
 use Rattle.form_expand.specs.Listing.{powers}
 use Rattle.form_expand.specs.Reading.{list_of_pieces}
 use Rattle.form_expand.proofs.parenthesis.Parenthesis.new.Goals as goal

@@ -1,10 +1,8 @@
-use Rattle.std.proofs.Common.{[], ◌∷◌, ◌++◌, refl, sym, ap, ◌∙◌, append-nil}
-use Rattle.std.specs.Prelude.{Some, None, Ok, Err}
+use Rattle.std.proofs.Common.{refl, sym, append-nil}
+use Rattle.std.specs.Prelude.{Some, None, Ok}
 use Rattle.std.proofs.lemmas.Result.{err_from_is_err_and}
 use Rattle.form_expand.specs.Kept.{listing}
-use Rattle.form_expand.specs.Listing.{nothing}
-use Rattle.form_expand.specs.Walks.{steps_left, step_level, power_left}
-use Rattle.form_expand.specs.Next.{Takes}
+use Rattle.form_expand.specs.Walks.{step_level, power_left}
 use Rattle.form_expand.proofs.Vecs.{emptied}
 use Rattle.form_expand.proofs.Powers.{in_same_list, steps_close, steps_give, steps_open, steps_refuse, steps_done}
 use Rattle.form_expand.proofs.power.Power.step.Goals as goal

@@ -1,7 +1,7 @@
-use Rattle.std.proofs.Common.{refl, sym, ap, ◌∙◌}
+use Rattle.std.proofs.Common.{sym, ap, ◌∙◌}
 use Rattle.std.specs.Prelude.{None}
 use Rattle.form_expand.specs.Factors.{factor_whole}
-use Rattle.form_expand.specs.Left.{Level, times_by}
+use Rattle.form_expand.specs.Left.{times_by}
 use Rattle.form_expand.specs.Listing.{Listing}
 use Rattle.form_expand.proofs.Taking.{times_by_end}
 use Rattle.form_expand.proofs.product.Level.release.Goals as goal

@@ -1,8 +1,5 @@
-use Rattle.std.proofs.Common.{◌≡◌, ◌<◌, ◌++◌, [], ◌∷◌, length, refl, sym, ap, ◌∙◌, arith, vec_len, map}
-use Rattle.form_expand.specs.Factors.{factor_whole}
-use Rattle.form_expand.specs.Left.{left_past_all, row}
-use Rattle.form_expand.specs.Products.{waiting_of}
-use Rattle.form_expand.proofs.Levels.{nothing_past_all}
+use Rattle.std.proofs.Common.{◌<◌, length, refl, sym, ◌∙◌, arith}
+use Rattle.form_expand.specs.Left.{left_past_all}
 use Rattle.form_expand.proofs.Products.{factor_queued, product_begins, product_of_none}
 use Rattle.form_expand.proofs.Vecs.{emptied}
 use Rattle.form_expand.proofs.product.Product.new.Goals as goal

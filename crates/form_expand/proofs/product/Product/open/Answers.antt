@@ -1,4 +1,3 @@
-use Rattle.std.specs.Prelude.{Some}
 use Rattle.std.proofs.Common.{sym}
 use Rattle.std.proofs.lemmas.Bool.{eqb-true}
 use Rattle.form_expand.proofs.Products.{spent_bottom}

@@ -1,7 +1,6 @@
-use Rattle.std.proofs.Common.{arith, ◌≡◌, ◌+◌, ◌∷◌, [], refl, sym, ap, ◌∙◌, map}
+use Rattle.std.proofs.Common.{arith, ◌≡◌, refl, ap, ◌∙◌}
 use Rattle.std.specs.Prelude.{suc, None}
 use Rattle.form_expand.proofs.Behind.{first_power}
-use Rattle.form_expand.specs.Products.{waiting_of}
 use Rattle.form_expand.specs.Listing.{powers}
 use Rattle.form_expand.specs.Reading.{list_of_pieces}
 use Rattle.form_expand.proofs.Products.{copies_push, copies_begin}

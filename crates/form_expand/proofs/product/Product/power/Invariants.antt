@@ -1,6 +1,5 @@
 use Rattle.std.proofs.Common.{◌≡◌, map}
 use Rattle.std.specs.Prelude.{replicate}
-use Rattle.form_expand.specs.Left.{Waiting}
 use Rattle.form_expand.specs.Listing.{powers}
 use Rattle.form_expand.specs.Products.{waiting_of}
 use Rattle.form_expand.specs.Reading.{list_of_pieces}

@@ -1,4 +1,4 @@
-use Rattle.std.proofs.Common.{◌≡◌, ◌-◌, false, refl, arith, ap, ◌∙◌}
+use Rattle.std.proofs.Common.{◌≡◌, ◌-◌, false, arith, ap, ◌∙◌}
 use Rattle.form_expand.specs.Listing.{limited}
 use Rattle.form_expand.specs.Products.{product_left}
 use Rattle.form_expand.specs.Reading.{list_of_pieces}

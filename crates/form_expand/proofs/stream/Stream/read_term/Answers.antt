@@ -1,4 +1,4 @@
-use Rattle.std.proofs.Common.{◌≡◌, ◌-◌, [], sym, ap, ◌∙◌}
+use Rattle.std.proofs.Common.{◌-◌, [], ap, ◌∙◌}
 use Rattle.form_expand.specs.Listing.{before, limited, followed, signed}
 use Rattle.form_expand.specs.Products.{product_left}
 use Rattle.form_expand.specs.Reading.{list_of_pieces}

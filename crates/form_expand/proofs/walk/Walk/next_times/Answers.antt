@@ -5,7 +5,6 @@ use Rattle.std.proofs.lemmas.Result.{err_from_is_err_and}
 use Rattle.form_expand.specs.Kept.{listing, rest_at, end_of}
 use Rattle.form_expand.specs.Left.{times_by}
 use Rattle.form_expand.specs.Listing.{limited}
-use Rattle.form_expand.specs.Walks.{walk_left, walk_whole}
 use Rattle.form_expand.proofs.Taking.{limited_first, limited_over, limited_end, gives_end, gives_unmade, times_by_made, times_by_end, at_end}
 use Rattle.form_expand.proofs.walk.Walk.next_times.Goals as goal
 

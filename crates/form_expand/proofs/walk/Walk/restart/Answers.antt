@@ -1,5 +1,4 @@
 use Rattle.std.proofs.Common.{◌≡◌, ◌-◌, refl, arith}
-use Rattle.form_expand.specs.Walks.{walk_left, walk_whole}
 use Rattle.form_expand.proofs.walk.Walk.restart.Goals as goal
 
 pub returns-clause-whole : goal.returns-clause-whole

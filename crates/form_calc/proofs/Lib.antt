@@ -1,0 +1,5 @@
+mod Holes
+mod Machine
+mod Oldest
+mod Ranges
+mod Trees

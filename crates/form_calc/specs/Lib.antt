@@ -1,0 +1,6 @@
+pub mod Answers
+pub mod Calculation
+pub mod Condition
+pub mod Expression
+pub mod Number
+pub mod Stack

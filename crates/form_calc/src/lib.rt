@@ -1,0 +1,24 @@
+#![tactic(auto)]
+
+mod calculation;
+mod condition;
+mod error;
+pub mod laws;
+mod level;
+mod number;
+mod operand;
+mod row;
+mod stack;
+mod text;
+
+pub use calculation::calculate;
+pub use condition::holds;
+pub use error::CalcError;
+pub use number::Number;
+pub use operand::number_of;
+pub use row::Row;
+pub use stack::Stack;
+pub use text::Text;
+
+#[cfg(test)]
+mod tests;

@@ -1,0 +1,6 @@
+use Rattle.form_preproc.proofs.Asking.{begun_plain, one_plain}
+use Rattle.form_preproc.proofs.expander.Expander.new.Goals as goal
+
+pub returns-clause-plain : goal.returns-clause-plain
+returns-clause-plain c =
+    (begun_plain c.in_ok-machine.machine c.args.file c.in_ok-machine.ensures.begun, one_plain c.push.new.self c.new-frames.result _ c.in_ok-push.ensures.pushed c.new-frames.ensures tt)

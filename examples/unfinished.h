@@ -1,0 +1,3 @@
+* A right side without its end.
+Symbols x;
+Local G = (x + 1;
