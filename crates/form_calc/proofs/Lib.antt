@@ -1,5 +1,9 @@
+mod Decimals
 mod Holes
+mod Joints
+mod Lexemes
 mod Machine
 mod Oldest
 mod Ranges
+mod Tokens
 mod Trees

@@ -182,7 +182,7 @@ mark_no_digit trees.Close = refl
 abbrev shown_if : Bool → ℕ → Option ℤ
 shown_if is n = if is then Some (pos n) else None
 
-above : (m top n : ℕ) → m ≤ n → nat_le m top ≡ false → nat_le n top ≡ false
+pub above : (m top n : ℕ) → m ≤ n → nat_le m top ≡ false → nat_le n top ≡ false
 above m top n h e =
     let f : top < m = leb-false m top e in
     lt-leb n top (omega arith)
@@ -196,7 +196,7 @@ abbrev pub more_decimal : ℕ → List ℕ → ℕ
 more_decimal m ds = fold (λ value digit. value * 10 + (digit - 48)) m ds
 
 -- one more digit behind a number that may be out of range
-further : (m d : ℕ) → numbers.with_digit (in_range (pos m)) d ≡ in_range (pos (m * 10 + (d - 48)))
+pub further : (m d : ℕ) → numbers.with_digit (in_range (pos m)) d ≡ in_range (pos (m * 10 + (d - 48)))
 further m d = by (nat_le m largest) refl
   where
     tenfold : m ≤ m * 10 + (d - 48)

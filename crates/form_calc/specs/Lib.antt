@@ -3,4 +3,5 @@ pub mod Calculation
 pub mod Condition
 pub mod Expression
 pub mod Number
+pub mod Proposition
 pub mod Stack

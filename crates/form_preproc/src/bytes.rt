@@ -1,15 +1,22 @@
 //! Blanks, names and quotes in a line.
 
-ghost use Rattle.std.specs.Prelude.{◌≡◌, Some, None, MatchOption};
+ghost use Rattle.std.specs.Prelude.{◌≡◌, ◌==◌, Some, None, MatchOption};
 ghost use Rattle.form_lines.specs.Program.{after_blanks as after_blanks_of, is_blank as is_blank_byte};
 ghost use Rattle.form_preproc.specs.Bytes as bytes;
-ghost use Rattle.std.specs.List.{list_all, prefix_len};
+ghost use Rattle.std.specs.List.{list_all, list_any, prefix_len};
 ghost use Rattle.std.specs.Char.{is_ascii_alphanumeric};
 
 fn is_blank(byte: u8) -> bool
     ensures { result ≡ is_blank_byte byte }
 {
     byte == b' ' || byte == b'\t'
+}
+
+/// Whether a byte stands in a text.
+pub fn has_byte(text: &[u8], byte: u8) -> bool
+    ensures { result ≡ list_any (λ c. c == byte) text.now }
+{
+    text.iter().any(|other| *other == byte)
 }
 
 /// What follows the blanks at the front.

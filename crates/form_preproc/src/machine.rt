@@ -11,12 +11,13 @@ ghost use Rattle.form_preproc.specs.Kept.{kept_in};
 ghost use Rattle.form_preproc.specs.Stops.{IsStop};
 
 use crate::braces::calculated;
-use crate::bytes::{after_blanks, is_name, trimmed};
+use crate::bytes::{after_blanks, has_byte, is_name, trimmed};
 use crate::error::{LineError, PartError};
 use crate::frame::Action;
 use crate::handed::Handed;
 use crate::instruction::{Head, definition, procedure_head};
 use crate::key::behind_key;
+use crate::laws::braces_calculated;
 use crate::procedures::{Procedure, Procedures};
 use crate::putting::put_in;
 use crate::source::{Source, SourceLine};
@@ -47,6 +48,10 @@ pub fn prepared(alloc: Global, variables: &Variables, text: &[u8]) -> Result<Tex
     ensures { Gives result (expansion.prepared (kept_in variables.now).values text.now) }
 {
     let text = put_in(alloc, variables, text)?;
+    braces_calculated();
+    if !has_byte(text.as_slice(), b'}') {
+        return Ok(text);
+    }
     calculated(alloc, text.as_slice())
 }
 

@@ -7,7 +7,9 @@ ghost use Rattle.form_preproc.specs.Passing.{AreSame, IsLike, IsPassed, IsRead};
 ghost use Rattle.form_preproc.specs.Putting as putting;
 ghost use Rattle.form_preproc.specs.declared.putting.Putting.{Putting as State};
 
+use crate::bytes::has_byte;
 use crate::error::LineError;
+use crate::laws::values_put_in;
 use crate::variables::{Variables, name_of};
 use form_base::Cause;
 use form_calc::{Stack, Text};
@@ -175,6 +177,10 @@ fn ended(line: Putting, is_long: bool) -> Result<Text, LineError>
 pub fn put_in(alloc: Global, variables: &Variables, text: &[u8]) -> Result<Text, LineError>
     ensures { Gives result (putting.put_in (kept_in variables.now).values text.now) }
 {
+    values_put_in();
+    if !has_byte(text, b'`') {
+        return untouched(alloc, text);
+    }
     let mut putting = Putting::new(alloc, text.len())?;
     let mut is_long = false;
     for byte in text {
