@@ -6,50 +6,15 @@ use Rattle.form_ast.specs.declared.expr.Sign.{Sign}
 use Rattle.form_ast.specs.declared.expr.Sign.TheVariants.{Plus, Minus}
 use Rattle.form_ast.specs.declared.expr.Link.{Link}
 use Rattle.form_ast.specs.declared.expr.Link.TheVariants as links
+use Rattle.form_ast.specs.declared.expr.Named.{Named}
 use Rattle.form_ast.specs.declared.expr.Power.{Power}
 use Rattle.form_ast.specs.declared.expr.Piece.{Piece}
 use Rattle.form_ast.specs.declared.expr.Piece.TheVariants as pieces
-use Rattle.form_ast.specs.Syntax.{Sum, first, more, Product, one, times, over, Factor, factor, number, name, parenthesis, link_of, first_link, pieces_of_sum, pieces_of_product, pieces_of_factor}
+use Rattle.form_ast.specs.Building.{Lead, start, after, Begun, nothing, begun, Opened, in_parenthesis, in_call, Frame, Building, added, with_argument, build, tree_of}
+use Rattle.form_ast.specs.Syntax.{Sum, first, more, Product, one, times, over, Factor, factor, number, name, dot, delta, empty_call, call, parenthesis, Arguments, argument, further, link_of, first_link, pieces_of_sum, pieces_of_product, pieces_of_factor, pieces_of_arguments}
 
--- what is before a product: its sign alone, where it is the first, or a sum and its sign
-data Lead : Type 0 where
-  start : Option Sign → Lead
-  after : Sum → Sign → Lead
-
--- a sum that is begun: nothing yet, or what is before its last product, and this
-data Begun : Type 0 where
-  nothing : Begun
-  begun : Lead → Product → Begun
-
-abbrev sum_of : Lead → Product → Sum
-sum_of (start sign) p = first sign p
-sum_of (after s sign) p = more s sign p
-
--- a further factor
-abbrev added : Begun → Link → Factor → Begun
-added nothing links.First f = begun (start None) (one f)
-added nothing links.Plus f = begun (start (Some Plus)) (one f)
-added nothing links.Minus f = begun (start (Some Minus)) (one f)
-added nothing _ f = nothing
-added (begun l p) links.First f = nothing
-added (begun l p) links.Plus f = begun (after (sum_of l p) Plus) (one f)
-added (begun l p) links.Minus f = begun (after (sum_of l p) Minus) (one f)
-added (begun l p) links.Times f = begun l (times p f)
-added (begun l p) links.Over f = begun l (over p f)
-
-abbrev whole : Begun → Option Sum
-whole nothing = None
-whole (begun l p) = Some (sum_of l p)
-
--- the tree of pieces behind what is begun: in open parentheses, each with what is around it and how it stands to that, and in the innermost
-build : List (Begun × Link) → Begun → List Piece → Option Sum
-build around inner [] = whole inner
-build around inner (pieces.Number link n power ∷ rest) = build around (added inner link (factor (number n) power)) rest
-build around inner (pieces.Name link n power ∷ rest) = build around (added inner link (factor (name n) power)) rest
-build around inner (pieces.Open link ∷ rest) = build ((inner, link) ∷ around) nothing rest
-build [] inner (pieces.Close power ∷ rest) = None
-build (a ∷ around) nothing (pieces.Close power ∷ rest) = None
-build (a ∷ around) (begun l p) (pieces.Close power ∷ rest) = build around (added a.0 a.1 (factor (parenthesis (sum_of l p)) power)) rest
+abbrev at : List Frame → Begun → Building
+at around inner = record { around = around; inner = inner }
 
 abbrev begun_of : Sum → Begun
 begun_of (first sign p) = begun (start sign) p
@@ -70,51 +35,98 @@ begins_more (first o p) Minus f = refl
 begins_more (more s o p) Plus f = refl
 begins_more (more s o p) Minus f = refl
 
-closed : (around : List (Begun × Link)) (inner : Begun) (link : Link) (s : Sum) (power : Option Power) (rest : List Piece)
-    → build ((inner, link) ∷ around) (begun_of s) (pieces.Close power ∷ rest) ≡ build around (added inner link (factor (parenthesis s) power)) rest
+abbrev frame : Begun → Link → Opened → Frame
+frame outer link opened = record { outer = outer; link = link; opened = opened }
+
+closed_up : (around : List Frame) (inner : Begun) (link : Link) (s : Sum) (power : Option Power) (rest : List Piece)
+    → build (at (frame inner link in_parenthesis ∷ around) (begun_of s)) (pieces.Close power ∷ rest) ≡ build (at around (added inner link (factor (parenthesis s) power))) rest
 unfolding build
-closed around inner link (first o p) power rest = refl
-closed around inner link (more s o p) power rest = refl
+closed_up around inner link (first o p) power rest = refl
+closed_up around inner link (more s o p) power rest = refl
+
+-- the arguments that are complete before the last one, and this
+abbrev before_last : Arguments → Option Arguments
+before_last (argument s) = None
+before_last (further args s) = Some args
+
+abbrev last_of : Arguments → Sum
+last_of (argument s) = s
+last_of (further args s) = s
+
+with_last : (args : Arguments) → with_argument (before_last args) (last_of args) ≡ args
+with_last (argument s) = refl
+with_last (further args s) = refl
+
+call_closed : (around : List Frame) (inner : Begun) (link : Link) (n : Named) (before : Option Arguments) (s : Sum) (power : Option Power) (rest : List Piece)
+    → build (at (frame inner link (in_call n before) ∷ around) (begun_of s)) (pieces.EndOfCall power ∷ rest) ≡ build (at around (added inner link (factor (call n (with_argument before s)) power))) rest
+unfolding build
+call_closed around inner link n before (first o p) power rest = refl
+call_closed around inner link n before (more s o p) power rest = refl
+
+parted_at : (around : List Frame) (inner : Begun) (link : Link) (n : Named) (before : Option Arguments) (s : Sum) (rest : List Piece)
+    → build (at (frame inner link (in_call n before) ∷ around) (begun_of s)) (pieces.Comma ∷ rest) ≡ build (at (frame inner link (in_call n (Some (with_argument before s))) ∷ around) nothing) rest
+unfolding build
+parted_at around inner link n before (first o p) rest = refl
+parted_at around inner link n before (more s o p) rest = refl
 
 mutual
   unfolding build
 
-  of_sum : (s : Sum) (around : List (Begun × Link)) (rest : List Piece) → build around nothing (pieces_of_sum s ++ rest) ≡ build around (begun_of s) rest
+  of_sum : (s : Sum) (around : List Frame) (rest : List Piece) → build (at around nothing) (pieces_of_sum s ++ rest) ≡ build (at around (begun_of s)) rest
   of_sum (first sign p) around rest = of_product p around nothing (first_link sign) (start sign) rest (begins_first sign)
   of_sum (more s sign p) around rest =
-      ap (build around nothing) (append_assoc (pieces_of_sum s) (pieces_of_product (link_of sign) p) rest)
+      ap (build (at around nothing)) (append_assoc (pieces_of_sum s) (pieces_of_product (link_of sign) p) rest)
       ∙ of_sum s around (pieces_of_product (link_of sign) p ++ rest)
       ∙ of_product p around (begun_of s) (link_of sign) (after s sign) rest (begins_more s sign)
 
-  of_product : (p : Product) (around : List (Begun × Link)) (inner : Begun) (link : Link) (l : Lead) (rest : List Piece) → Begins inner link l
-      → build around inner (pieces_of_product link p ++ rest) ≡ build around (begun l p) rest
-  of_product (one f) around inner link l rest b = of_factor f around inner link rest ∙ ap (λ (i : Begun). build around i rest) (b f)
+  of_product : (p : Product) (around : List Frame) (inner : Begun) (link : Link) (l : Lead) (rest : List Piece) → Begins inner link l
+      → build (at around inner) (pieces_of_product link p ++ rest) ≡ build (at around (begun l p)) rest
+  of_product (one f) around inner link l rest b = of_factor f around inner link rest ∙ ap (λ (i : Begun). build (at around i) rest) (b f)
   of_product (times p f) around inner link l rest b =
-      ap (build around inner) (append_assoc (pieces_of_product link p) (pieces_of_factor links.Times f) rest)
+      ap (build (at around inner)) (append_assoc (pieces_of_product link p) (pieces_of_factor links.Times f) rest)
       ∙ of_product p around inner link l (pieces_of_factor links.Times f ++ rest) b
       ∙ of_factor f around (begun l p) links.Times rest
   of_product (over p f) around inner link l rest b =
-      ap (build around inner) (append_assoc (pieces_of_product link p) (pieces_of_factor links.Over f) rest)
+      ap (build (at around inner)) (append_assoc (pieces_of_product link p) (pieces_of_factor links.Over f) rest)
       ∙ of_product p around inner link l (pieces_of_factor links.Over f ++ rest) b
       ∙ of_factor f around (begun l p) links.Over rest
 
-  of_factor : (f : Factor) (around : List (Begun × Link)) (inner : Begun) (link : Link) (rest : List Piece)
-      → build around inner (pieces_of_factor link f ++ rest) ≡ build around (added inner link f) rest
+  of_factor : (f : Factor) (around : List Frame) (inner : Begun) (link : Link) (rest : List Piece)
+      → build (at around inner) (pieces_of_factor link f ++ rest) ≡ build (at around (added inner link f)) rest
   of_factor (factor (number n) power) around inner link rest = refl
   of_factor (factor (name n) power) around inner link rest = refl
+  of_factor (factor (dot p q) power) around inner link rest = refl
+  of_factor (factor (delta spot a b) power) around inner link rest = refl
+  of_factor (factor (empty_call n) power) around inner link rest = refl
+  of_factor (factor (call n args) power) around inner link rest =
+      ap (build (at (frame inner link (in_call n None) ∷ around) nothing)) (append_assoc (pieces_of_arguments args) (pieces.EndOfCall power ∷ []) rest)
+      ∙ of_arguments args around inner link n (pieces.EndOfCall power ∷ rest)
+      ∙ call_closed around inner link n (before_last args) (last_of args) power rest
+      ∙ ap (λ (all : Arguments). build (at around (added inner link (factor (call n all) power))) rest) (with_last args)
   of_factor (factor (parenthesis s) power) around inner link rest =
-      ap (build ((inner, link) ∷ around) nothing) (append_assoc (pieces_of_sum s) (pieces.Close power ∷ []) rest)
-      ∙ of_sum s ((inner, link) ∷ around) (pieces.Close power ∷ rest)
-      ∙ closed around inner link s power rest
+      ap (build (at (frame inner link in_parenthesis ∷ around) nothing)) (append_assoc (pieces_of_sum s) (pieces.Close power ∷ []) rest)
+      ∙ of_sum s (frame inner link in_parenthesis ∷ around) (pieces.Close power ∷ rest)
+      ∙ closed_up around inner link s power rest
 
-of_begun : (s : Sum) → build [] (begun_of s) [] ≡ Some s
+  of_arguments : (args : Arguments) (around : List Frame) (inner : Begun) (link : Link) (n : Named) (rest : List Piece)
+      → build (at (frame inner link (in_call n None) ∷ around) nothing) (pieces_of_arguments args ++ rest) ≡ build (at (frame inner link (in_call n (before_last args)) ∷ around) (begun_of (last_of args))) rest
+  of_arguments (argument s) around inner link n rest = of_sum s (frame inner link (in_call n None) ∷ around) rest
+  of_arguments (further args s) around inner link n rest =
+      ap (build (at (frame inner link (in_call n None) ∷ around) nothing)) (append_assoc (pieces_of_arguments args) (pieces.Comma ∷ pieces_of_sum s) rest)
+      ∙ of_arguments args around inner link n (pieces.Comma ∷ pieces_of_sum s ++ rest)
+      ∙ parted_at around inner link n (before_last args) (last_of args) (pieces_of_sum s ++ rest)
+      ∙ ap (λ (all : Arguments). build (at (frame inner link (in_call n (Some all)) ∷ around) nothing) (pieces_of_sum s ++ rest)) (with_last args)
+      ∙ of_sum s (frame inner link (in_call n (Some args)) ∷ around) rest
+
+of_begun : (s : Sum) → build (at [] (begun_of s)) [] ≡ Some s
 unfolding build
 of_begun (first o p) = refl
 of_begun (more s o p) = refl
 
-built : (s : Sum) → build [] nothing (pieces_of_sum s) ≡ Some s
-built s = ap (build [] nothing) (sym (append-nil (pieces_of_sum s))) ∙ of_sum s [] [] ∙ of_begun s
+-- the tree is found again
+pub built_again : (s : Sum) → tree_of (pieces_of_sum s) ≡ Some s
+built_again s = ap tree_of (sym (append-nil (pieces_of_sum s))) ∙ of_sum s [] [] ∙ of_begun s
 
 -- Pieces are those of one tree at most.
 pub one_tree : (s t : Sum) → pieces_of_sum s ≡ pieces_of_sum t → s ≡ t
-one_tree s t e = same_Some s t (sym (built s) ∙ ap (build [] nothing) e ∙ built t)
+one_tree s t e = same_Some s t (sym (built_again s) ∙ ap tree_of e ∙ built_again t)

@@ -36,6 +36,22 @@ pub struct Spelled {
     pub spot: Spot,
 }
 
+/// A name as a right side has it.
+#[derive(Debug, Drop, PartialEq, Eq)]
+pub enum Named {
+    /// A name that a program declares.
+    Declared(Spelled),
+    /// `i_`, the imaginary unit.
+    Imaginary(Spot),
+}
+
+/// An argument of `d_`.
+#[derive(Debug, Drop, PartialEq, Eq)]
+pub enum Entry {
+    Name(Named),
+    Number(Number),
+}
+
 /// A written power: a number with a sign or none, in parentheses or without.
 #[derive(Clone, Copy, Debug, PartialEq, Eq)]
 pub struct Power {
@@ -50,7 +66,21 @@ pub enum Piece {
     /// A number as a factor.
     Number(Link, Number, Option<Power>),
     /// A name as a factor.
-    Name(Link, Spelled, Option<Power>),
+    Name(Link, Named, Option<Power>),
+    /// A dot product begins, as a factor, with its first name.
+    Dot(Link, Named),
+    /// A dot product ends with its second name.
+    EndOfDot(Named, Option<Power>),
+    /// A `d_`, which stands here, begins, as a factor, with its first argument.
+    Delta(Link, Spot, Entry),
+    /// A `d_` ends with its second argument.
+    EndOfDelta(Entry, Option<Power>),
+    /// A name with arguments in parentheses begins, as a factor. Each argument is a sum.
+    Call(Link, Named),
+    /// A further argument begins.
+    Comma,
+    /// The arguments end.
+    EndOfCall(Option<Power>),
     /// A sum in parentheses begins, as a factor.
     Open(Link),
     /// A sum in parentheses ends.

@@ -1,13 +1,30 @@
 ghost use Rattle.std.specs.Prelude.{◌≡◌};
 
-use crate::{Expr, NameList, Spelled};
+use crate::{Dimension, Expr, IndexList, NameList, Spelled};
 use form_base::Spot;
 use std::marker::Model;
+
+/// What names are declared as.
+#[derive(Clone, Copy, Debug, PartialEq, Eq)]
+pub enum Declared {
+    Symbols,
+    Vectors,
+    /// Functions that don't commute with each other.
+    Functions,
+    /// Commuting functions.
+    CFunctions,
+}
 
 /// A statement as it is written. No names at `Drop`, `Skip` and `Print` means all expressions.
 #[derive(Debug, Drop)]
 pub enum Statement {
-    Symbols(NameList),
+    /// Names that are declared, other than indices.
+    Names(Declared, NameList),
+    Indices(IndexList),
+    /// The dimension of the indices that are declared from here on without one.
+    Dimension(Dimension),
+    /// `On statistics` or `Off statistics`, which changes nothing.
+    Statistics,
     Drop(NameList),
     Skip(NameList),
     Local(Spelled, Expr),

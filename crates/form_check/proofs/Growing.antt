@@ -1,12 +1,17 @@
 -- Names are only added: what stands keeps its kind.
-use Rattle.std.proofs.Common.{◌≡◌, ℕ, zero, suc, Bool, true, false, List, [], ◌∷◌, ◌++◌, length, Option, Some, None, Result, Ok, Err, refl, ap, subst, ◌∙◌, if◌then◌else◌}
+use Rattle.std.proofs.Common.{◌≡◌, ℕ, zero, suc, Bool, true, false, List, [], ◌∷◌, ◌++◌, length, Option, Some, None, Result, Ok, Err, refl, ap, subst, ◌∙◌, if◌then◌else◌, ◌==◌}
+use Rattle.std.proofs.lemmas.Bool.{eqb-true}
 use Rattle.form_base.specs.declared.cause.Cause.{Cause}
 use Rattle.form_base.specs.declared.spot.Spot.{Spot}
 use Rattle.form_names.specs.declared.kind.Kind.{Kind}
-use Rattle.form_names.specs.declared.kind.Kind.TheVariants.{Symbol, Expression}
-use Rattle.form_names.specs.Names.{Entry, lookup, kind_at, is_same_kind, declared_at, declared_alike}
+use Rattle.form_names.specs.declared.kind.Kind.TheVariants.{Symbol, Vector, Index, Function, CommutingFunction, Expression}
+use Rattle.form_names.specs.declared.kind.Dimension.{Dimension}
+use Rattle.form_names.specs.declared.kind.Dimension.TheVariants as dimensions
+use Rattle.form_names.specs.Names.{Entry, lookup, kind_at, declare, is_same_kind, declared_at, declared_alike, IsDimension}
 use Rattle.form_ast.specs.declared.expr.Spelled.{Spelled}
-use Rattle.form_check.specs.Checking.{declared, declared_once, symbol}
+use Rattle.form_ast.specs.declared.index_list.SpelledIndex.{SpelledIndex}
+use Rattle.form_check.specs.Checker.{Keeps, KeepsDimensions}
+use Rattle.form_check.specs.Checking.{declared, declared_once, named, dimension_or, is_past_limit, index_with, index}
 use Rattle.form_check.specs.Refusal.{Refusal, refused, ◌>>=◌, each}
 
 -- ---- results
@@ -28,10 +33,7 @@ ok_same is = cc
 
 -- ---- names
 
-abbrev pub Grows : List Entry → List Entry → Type 0
-Grows old new = (id : ℕ) (kind : Kind) → kind_at old id ≡ Some kind → kind_at new id ≡ Some kind
-
-pub grows-append : (old more : List Entry) → Grows old (old ++ more)
+pub grows-append : (old more : List Entry) → Keeps old (old ++ more)
 grows-append [] more id kind is = cc
 grows-append (e ∷ es) more zero kind is = is
 grows-append (e ∷ es) more (suc id) kind is = grows-append es more id kind is
@@ -40,15 +42,56 @@ kind_at-last : (names : List Entry) (e : Entry) → kind_at (names ++ e ∷ []) 
 kind_at-last [] e = refl
 kind_at-last (first ∷ rest) e = kind_at-last rest e
 
+eqb_same : (m n : ℕ) → (m == n) ≡ true → m ≡ n
+eqb_same m n is = eqb-true m n is
+
+same_dimension : (a b : Dimension) → is_same_kind (Index a) (Index b) ≡ true → a ≡ b
+same_dimension (dimensions.Number m) (dimensions.Number n) is = ap dimensions.Number (eqb_same m n is)
+same_dimension (dimensions.Symbol m) (dimensions.Symbol n) is = ap dimensions.Symbol (eqb_same m n is)
+same_dimension (dimensions.Number m) (dimensions.Symbol n) is = cc
+same_dimension (dimensions.Symbol m) (dimensions.Number n) is = cc
+
 same_kind : (a b : Kind) → is_same_kind a b ≡ true → a ≡ b
 same_kind Symbol Symbol is = refl
-same_kind Expression Expression is = refl
+same_kind Symbol Vector is = cc
+same_kind Symbol (Index e) is = cc
+same_kind Symbol Function is = cc
+same_kind Symbol CommutingFunction is = cc
 same_kind Symbol Expression is = cc
+same_kind Vector Symbol is = cc
+same_kind Vector Vector is = refl
+same_kind Vector (Index e) is = cc
+same_kind Vector Function is = cc
+same_kind Vector CommutingFunction is = cc
+same_kind Vector Expression is = cc
+same_kind (Index d) Symbol is = cc
+same_kind (Index d) Vector is = cc
+same_kind (Index d) (Index e) is = ap Index (same_dimension d e is)
+same_kind (Index d) Function is = cc
+same_kind (Index d) CommutingFunction is = cc
+same_kind (Index d) Expression is = cc
+same_kind Function Symbol is = cc
+same_kind Function Vector is = cc
+same_kind Function (Index e) is = cc
+same_kind Function Function is = refl
+same_kind Function CommutingFunction is = cc
+same_kind Function Expression is = cc
+same_kind CommutingFunction Symbol is = cc
+same_kind CommutingFunction Vector is = cc
+same_kind CommutingFunction (Index e) is = cc
+same_kind CommutingFunction Function is = cc
+same_kind CommutingFunction CommutingFunction is = refl
+same_kind CommutingFunction Expression is = cc
 same_kind Expression Symbol is = cc
+same_kind Expression Vector is = cc
+same_kind Expression (Index e) is = cc
+same_kind Expression Function is = cc
+same_kind Expression CommutingFunction is = cc
+same_kind Expression Expression is = refl
 
 -- what a declaration leaves
 pub record Declares (old : List Entry) (kind : Kind) (id : ℕ) (new : List Entry) : Type 0 where
-  pub grows : Grows old new
+  pub grows : Keeps old new
   pub stands : kind_at new id ≡ Some kind
 
 some_same : {A : Type 0} {x y : A} → Some x ≡ Some y → x ≡ y
@@ -90,11 +133,38 @@ declared-Ok names spelled kind d is =
     let fits = else-Ok _ _ _ _ d is in
     at_place (lookup names spelled.name) names d.1 spelled.name kind d.0 (once _ spelled d fits.1)
 
-pub symbols-grow : (list : List Spelled) (names new : List Entry) → each symbol names list ≡ Ok new → Grows names new
-symbols-grow [] names new is = λ i k h. subst (λ (n : List Entry). kind_at n i ≡ Some k) (ok_same is) h
-symbols-grow (s ∷ rest) names new is =
-    let first = bind-Ok (symbol names s) (λ next. each symbol next rest) new is in
-    let made = bind-Ok (declared names s Symbol) (λ d. Ok d.1) first.0 first.1 in
-    let next_is : made.0.1 ≡ first.0 = ok_same made.2 in
-    let grows : Grows names first.0 = λ i k h. subst (λ (n : List Entry). kind_at n i ≡ Some k) next_is ((declared-Ok names s Symbol made.0 made.1).grows i k h) in
-    λ i k h. symbols-grow rest first.0 new first.2 i k (grows i k h)
+pub keeps-both : (a b c : List Entry) → Keeps a b → Keeps b c → Keeps a c
+keeps-both a b c h k = λ i kind is. k i kind (h i kind is)
+
+pub named-keeps : (kind : Kind) (names new : List Entry) (s : Spelled) → named kind names s ≡ Ok new → Keeps names new
+named-keeps kind names new s is =
+    let made = bind-Ok (declared names s kind) (λ d. Ok d.1) new is in
+    let next_is : made.0.1 ≡ new = ok_same made.2 in
+    λ i k h. subst (λ (n : List Entry). kind_at n i ≡ Some k) next_is ((declared-Ok names s kind made.0 made.1).grows i k h)
+
+index-with : (names new : List Entry) (s : Spelled) (place : Option ℕ) (d : Result Dimension Refusal) → index_with names s place d ≡ Ok new → Keeps names new
+index-with names new s place (Ok d) is = named-keeps (Index d) names new s is
+index-with names new s None (Err e) is = cc
+index-with names new s (Some id) (Err e) is = cc
+
+pub index-keeps : (default : Dimension) (names new : List Entry) (i : SpelledIndex) → index default names i ≡ Ok new → Keeps names new
+index-keeps default names new i is =
+    let fits = else-Ok (is_past_limit names (lookup names i.name.name)) (index_with names i.name (lookup names i.name.name) (dimension_or default names i.dimension)) _ _ new is in
+    index-with names new i.name (lookup names i.name.name) (dimension_or default names i.dimension) fits.1
+
+-- what each step keeps is kept by all
+pub all-keep : {X : Type 0} (step : List Entry → X → Result (List Entry) Refusal) → ((names new : List Entry) (x : X) → step names x ≡ Ok new → Keeps names new)
+    → (list : List X) (names new : List Entry) → each step names list ≡ Ok new → Keeps names new
+all-keep step keeps [] names new is = λ i k h. subst (λ (n : List Entry). kind_at n i ≡ Some k) (ok_same is) h
+all-keep step keeps (x ∷ rest) names new is =
+    let first = bind-Ok (step names x) (λ next. each step next rest) new is in
+    keeps-both names first.0 new (keeps names first.0 x first.1) (all-keep step keeps rest first.0 new first.2)
+
+-- a dimension stays one
+pub dimension-kept : (old new : List Entry) (d : Dimension) → Keeps old new → IsDimension old d → IsDimension new d
+dimension-kept old new (dimensions.Number n) keeps h = h
+dimension-kept old new (dimensions.Symbol id) keeps h = keeps id Symbol h
+
+-- a declaration keeps what are dimensions
+pub declare_keeps : (names new : List Entry) (name : List ℕ) (kind : Kind) (id : ℕ) → declare names name kind ≡ Some (id, new) → KeepsDimensions names new
+declare_keeps names new name kind id is = λ d h. dimension-kept names new d (at_place (lookup names name) names new name kind id is).grows h

@@ -1,7 +1,12 @@
+pub mod Binding
 pub mod Defining
 pub mod Dropping
+pub mod Fronts
 pub mod Growing
+pub mod Lists
 pub mod Loops
+pub mod Misplaced
 pub mod Pieces
 pub mod Sound
-pub mod Trees
+pub mod Walked
+pub mod Whole

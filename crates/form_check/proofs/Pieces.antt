@@ -1,22 +1,38 @@
--- What a piece is that isn't refused.
-use Rattle.std.proofs.Common.{◌≡◌, ℕ, zero, suc, ◌≤◌, ℤ, pos, neg_ℤ, nat_abs, Bool, true, false, ◌&&◌, ◌==◌, not, nat_le, List, [], ◌∷◌, Option, Some, None, Ok, refl, subst, arith, if◌then◌else◌}
+-- What a tree is that isn't refused: each of its pieces is sound.
+use Rattle.std.proofs.Common.{◌≡◌, ℕ, zero, suc, ◌≤◌, ℤ, pos, neg_ℤ, nat_abs, Bool, true, false, ◌&&◌, ◌==◌, nat_le, List, [], ◌∷◌, ◌++◌, All, Option, Some, None, Result, Ok, Err, refl, subst, ap, arith, if◌then◌else◌}
+use Rattle.std.specs.Prelude.{IsTrue}
 use Rattle.std.proofs.lemmas.Bool.{leb-true}
-use Rattle.form_names.specs.declared.kind.Kind.{Kind}
-use Rattle.form_names.specs.declared.kind.Kind.TheVariants.{Symbol, Expression}
+use Rattle.std.proofs.lemmas.List.Elements.{All-nil, All-cons, All-append, All-weaker}
+use Rattle.form_names.specs.declared.kind.Kind as kinds
+use Rattle.form_names.specs.declared.kind.Kind.TheVariants.{Symbol, Vector, Index, Function, CommutingFunction, Expression}
 use Rattle.form_names.specs.Names.{Entry, lookup, kind_at}
-use Rattle.form_ast.specs.declared.expr.Link.{Link}
+use Rattle.form_term.specs.declared.index.Index as indices
+use Rattle.form_term.specs.declared.index.Index.TheVariants as by_index
 use Rattle.form_ast.specs.declared.expr.Number.{Number}
+use Rattle.form_ast.specs.declared.expr.Named.{Named}
+use Rattle.form_ast.specs.declared.expr.Named.TheVariants.{Declared, Imaginary}
+use Rattle.form_ast.specs.declared.expr.Entry as entries
+use Rattle.form_ast.specs.declared.expr.Entry.TheVariants as by_entry
 use Rattle.form_ast.specs.declared.expr.Power.{Power}
 use Rattle.form_ast.specs.declared.expr.Spelled.{Spelled}
-use Rattle.form_ast.specs.declared.expr.Piece.{Piece}
-use Rattle.form_ast.specs.declared.expr.Piece.TheVariants as written
+use Rattle.form_ast.specs.Syntax as syntax
+use Rattle.form_tree.specs.declared.tree.Link.{Link}
+use Rattle.form_tree.specs.declared.tree.Link.TheVariants.{Times}
 use Rattle.form_tree.specs.declared.tree.Piece as resolved
 use Rattle.form_tree.specs.declared.tree.Piece.TheVariants as pieces
 use Rattle.form_tree.specs.Tree as tree
-use Rattle.form_check.specs.Refusal.{◌>>=◌}
-use Rattle.form_check.specs.RightSide.{link_of, size_within, exponent, number_exponent, has_minus, is_below_zero, is_inverted, largest_number, largest_exponent, largest_power, number, expression, by_kind, by_place, name, piece}
-use Rattle.form_check.specs.Sound.{IsPieceSound}
-use Rattle.form_check.proofs.Growing.{bind-Ok, if-Ok, ok_same}
+use Rattle.form_check.specs.declared.resolved.End as ends
+use Rattle.form_check.specs.declared.resolved.End.TheVariants as an_end
+use Rattle.form_check.specs.declared.resolved.Found.{Found}
+use Rattle.form_check.specs.declared.resolved.Head as heads
+use Rattle.form_check.specs.declared.resolved.Head.TheVariants as a_head
+use Rattle.form_check.specs.Refusal.{Refusal, ◌>>=◌}
+use Rattle.form_check.specs.RightSide.{wrong, spelled_of, size_within, exponent, number_exponent, has_minus, is_minus, is_below_zero, is_inverted, size_alone, largest_number, largest_exponent, largest_power, largest_index, number, symbol, found, found_as, found_at, by_kind, name, vector, vector_of, dot, end, named_end, fixed_end, end_of, linked, linked_index, linked_to, delta, head, head_of, alone, first_misplaced, only_end, component_end, call_by, call, empty_call_by, empty_call, lone, lone_named, lone_at, lone_of, argument, none_stands, sum, product, factor, arguments}
+use Rattle.form_check.specs.Sound.{IsOfKind, IsIndexSound, IsPieceSound}
+use Rattle.form_check.proofs.Growing.{bind-Ok, if-Ok, else-Ok, ok_same}
+
+some_same : {A : Type 0} {x y : A} → Some x ≡ Some y → x ≡ y
+some_same is = cc
 
 size-fits : (most : ℕ) (power : Option Power) (size : ℕ) → 1 ≤ most → size_within most power ≡ Ok size → size ≤ most
 size-fits most None size one is = let same : 1 ≡ size = ok_same is in omega arith
@@ -26,79 +42,322 @@ size-fits most (Some power) size one is =
     let below : power.number.value ≤ most = leb-true power.number.value most fits.0 in
     omega arith
 
-size-of-exponent : (link : Link) (power : Option Power) (size : ℕ) → nat_abs (exponent link power size) ≡ size
-size-of-exponent link power size = by (is_below_zero link power) size
-  where
-    by : (b : Bool) (n : ℕ) → nat_abs (if b then neg_ℤ (pos n) else pos n) ≡ n
-    by false n = refl
-    by true zero = refl
-    by true (suc n) = refl
+power-fits : (power : Option Power) (size : ℕ) → size_within largest_power power ≡ Ok size → size ≤ largest_power
+power-fits power size is = size-fits largest_power power size (omega arith) is
+
+exponent-fits : (power : Option Power) (size : ℕ) → size_within largest_exponent power ≡ Ok size → size ≤ largest_exponent
+exponent-fits power size is = size-fits largest_exponent power size (omega arith) is
 
 size-of-negated : (size : ℕ) → nat_abs (neg_ℤ (pos size)) ≡ size
 size-of-negated zero = refl
 size-of-negated (suc n) = refl
 
-size-of-number-exponent : (value : ℕ) (link : Link) (power : Option Power) (size : ℕ) → nat_abs (number_exponent value link power size) ≡ size
-size-of-number-exponent value link power size = by ((value == 0) && has_minus power)
+size-of-exponent : (is_over : Bool) (power : Option Power) (size : ℕ) → nat_abs (exponent is_over power size) ≡ size
+size-of-exponent is_over power size = by (is_below_zero is_over power)
   where
-    by : (b : Bool) → nat_abs (if b then neg_ℤ (pos size) else exponent link power size) ≡ size
-    by false = size-of-exponent link power size
+    by : (b : Bool) → nat_abs (if b then neg_ℤ (pos size) else pos size) ≡ size
+    by false = refl
     by true = size-of-negated size
 
-left-true : (a b : Bool) → (a && b) ≡ true → a ≡ true
-left-true true b is = refl
-left-true false b is = is
+size-of-number-exponent : (value : ℕ) (is_over : Bool) (power : Option Power) (size : ℕ) → nat_abs (number_exponent value is_over power size) ≡ size
+size-of-number-exponent value is_over power size = by ((value == 0) && has_minus power)
+  where
+    by : (b : Bool) → nat_abs (if b then neg_ℤ (pos size) else exponent is_over power size) ≡ size
+    by false = size-of-exponent is_over power size
+    by true = size-of-negated size
 
--- a piece that is sound, and that alone is a factor
-pub record IsFactorPiece (names : List Entry) (stands : ℕ → Bool) (link : Link) (p : resolved.Piece) : Type 0 where
-  pub sound : IsPieceSound names stands p
-  pub factor : tree.Factor
-  pub pieces : p ∷ [] ≡ tree.pieces_of_factor (link_of link) factor
+alone-fits : (is_over : Bool) (power : Option Power) (s : Spelled) (size : ℕ) → size_alone is_over power s ≡ Ok size → size ≤ largest_power
+alone-fits is_over power s size is = by (is_inverted is_over power) is
+  where
+    by : (b : Bool) → (if b then Err (wrong s) else size_within largest_power power) ≡ Ok size → size ≤ largest_power
+    by true is = cc
+    by false is = power-fits power size is
 
 module _ (names : List Entry) (stands : ℕ → Bool) where
-  pub number-Ok : (link : Link) (n : Number) (power : Option Power) (p : resolved.Piece) → number link n power ≡ Ok p → IsFactorPiece names stands link p
-  number-Ok link n power p is =
-      let fits = if-Ok (nat_le n.value largest_number) (size_within largest_power power >>= (λ size. Ok (pieces.Number (link_of link) n.value (number_exponent n.value link power size)))) _ _ p is in
-      let sized = bind-Ok (size_within largest_power power) (λ size. Ok (pieces.Number (link_of link) n.value (number_exponent n.value link power size))) p fits.1 in
-      let k : ℤ = number_exponent n.value link power sized.0 in
-      let within : nat_abs k ≤ largest_power = rw (size-of-number-exponent n.value link power sized.0) (size-fits largest_power power sized.0 (omega arith) sized.1) in
-      subst (IsFactorPiece names stands link) (ok_same sized.2) (record { sound = (leb-true n.value largest_number fits.0, within); factor = tree.number n.value k; pieces = refl })
+  abbrev P : resolved.Piece → Type 0
+  P p = IsPieceSound names stands p
 
-  symbol-Ok : (link : Link) (power : Option Power) (id : ℕ) (p : resolved.Piece) → kind_at names id ≡ Some Symbol → (size_within largest_exponent power >>= (λ size. Ok (pieces.Symbol (link_of link) id (exponent link power size)))) ≡ Ok p → IsFactorPiece names stands link p
-  symbol-Ok link power id p kind is =
-      let sized = bind-Ok (size_within largest_exponent power) (λ size. Ok (pieces.Symbol (link_of link) id (exponent link power size))) p is in
-      let k : ℤ = exponent link power sized.0 in
-      let within : nat_abs k ≤ largest_exponent = rw (size-of-exponent link power sized.0) (size-fits largest_exponent power sized.0 (omega arith) sized.1) in
-      subst (IsFactorPiece names stands link) (ok_same sized.2) (record { sound = (kind, within); factor = tree.symbol id k; pieces = refl })
+  abbrev AreSound : List resolved.Piece → Type 0
+  AreSound list = All P list
 
-  expression-Ok : (link : Link) (spelled : Spelled) (power : Option Power) (id : ℕ) (p : resolved.Piece) → kind_at names id ≡ Some Expression → expression stands link spelled power id ≡ Ok p → IsFactorPiece names stands link p
-  expression-Ok link spelled power id p kind is =
-      let fits = if-Ok (stands id && not (is_inverted link power)) (size_within largest_power power >>= (λ size. Ok (pieces.Stored (link_of link) id size))) _ _ p is in
-      let sized = bind-Ok (size_within largest_power power) (λ size. Ok (pieces.Stored (link_of link) id size)) p fits.1 in
-      let within : sized.0 ≤ largest_power = size-fits largest_power power sized.0 (omega arith) sized.1 in
-      let there : stands id ≡ true = left-true (stands id) (not (is_inverted link power)) fits.0 in
-      subst (IsFactorPiece names stands link) (ok_same sized.2) (record { sound = (kind, there, within); factor = tree.stored id sized.0; pieces = refl })
+  one : (p : resolved.Piece) → P p → AreSound (p ∷ [])
+  one p h = All-cons P p [] h (All-nil P)
 
-  kind-Ok : (link : Link) (spelled : Spelled) (power : Option Power) (id : ℕ) (p : resolved.Piece) (kind : Option Kind) → kind_at names id ≡ kind → by_kind stands link spelled power id kind ≡ Ok p → IsFactorPiece names stands link p
-  kind-Ok link spelled power id p None at is = cc
-  kind-Ok link spelled power id p (Some Symbol) at is = symbol-Ok link power id p at is
-  kind-Ok link spelled power id p (Some Expression) at is = expression-Ok link spelled power id p at is
+  two : (p q : resolved.Piece) → P p → P q → AreSound (p ∷ q ∷ [])
+  two p q h k = All-cons P p (q ∷ []) h (one q k)
 
-  place-Ok : (link : Link) (spelled : Spelled) (power : Option Power) (p : resolved.Piece) (place : Option ℕ) → by_place names stands link spelled power place ≡ Ok p → IsFactorPiece names stands link p
-  place-Ok link spelled power p None is = cc
-  place-Ok link spelled power p (Some id) is = kind-Ok link spelled power id p (kind_at names id) refl is
+  abbrev IsFactorSound : tree.Factor → Type 0
+  IsFactorSound g = (link : Link) → AreSound (tree.pieces_of_factor link g)
 
-  pub name-Ok : (link : Link) (spelled : Spelled) (power : Option Power) (p : resolved.Piece) → name names stands link spelled power ≡ Ok p → IsFactorPiece names stands link p
-  name-Ok link spelled power p is = place-Ok link spelled power p (lookup names spelled.name) is
+  number-sound : (is_over : Bool) (n : Number) (power : Option Power) (g : tree.Factor) → number is_over n power ≡ Ok g → IsFactorSound g
+  number-sound is_over n power g is =
+      let fits = if-Ok (nat_le n.value largest_number) (size_within largest_power power >>= (λ size. Ok (tree.number n.value (number_exponent n.value is_over power size)))) _ _ g is in
+      let sized = bind-Ok (size_within largest_power power) (λ size. Ok (tree.number n.value (number_exponent n.value is_over power size))) g fits.1 in
+      let within : nat_abs (number_exponent n.value is_over power sized.0) ≤ largest_power = rw (size-of-number-exponent n.value is_over power sized.0) (power-fits power sized.0 sized.1) in
+      subst IsFactorSound (ok_same sized.2) (λ link. one (pieces.Number link n.value (number_exponent n.value is_over power sized.0)) (leb-true n.value largest_number fits.0, within))
 
-  pub close-Ok : (power : Option Power) (p : resolved.Piece) → (size_within largest_power power >>= (λ size. Ok (pieces.Close size))) ≡ Ok p → (size : ℕ) × (pieces.Close size ≡ p) × (size ≤ largest_power)
-  close-Ok power p is =
-      let sized = bind-Ok (size_within largest_power power) (λ size. Ok (pieces.Close size)) p is in
-      (sized.0, ok_same sized.2, size-fits largest_power power sized.0 (omega arith) sized.1)
+  symbol-sound : (is_over : Bool) (id : ℕ) (power : Option Power) (g : tree.Factor) → kind_at names id ≡ Some Symbol → symbol is_over id power ≡ Ok g → IsFactorSound g
+  symbol-sound is_over id power g kind is =
+      let sized = bind-Ok (size_within largest_exponent power) (λ size. Ok (tree.symbol id (exponent is_over power size))) g is in
+      let within : nat_abs (exponent is_over power sized.0) ≤ largest_exponent = rw (size-of-exponent is_over power sized.0) (exponent-fits power sized.0 sized.1) in
+      subst IsFactorSound (ok_same sized.2) (λ link. one (pieces.Symbol link id (exponent is_over power sized.0)) (kind, within))
 
-  pub piece-Ok : (w : Piece) (p : resolved.Piece) → piece names stands w ≡ Ok p → IsPieceSound names stands p
-  piece-Ok (written.Number link n power) p is = (number-Ok link n power p is).sound
-  piece-Ok (written.Name link spelled power) p is = (name-Ok link spelled power p is).sound
-  piece-Ok (written.Open link) p is = subst (IsPieceSound names stands) (ok_same is) tt
-  piece-Ok (written.Close power) p is =
-      let closed = close-Ok power p is in subst (IsPieceSound names stands) closed.1 closed.2
+  pub found-sound : (s : Spelled) (f : Found) → found names s ≡ Ok f → kind_at names f.id ≡ Some f.kind
+  found-sound s f is = at_place (lookup names s.name) is
+    where
+      at_kind : (id : ℕ) (kind : Option kinds.Kind) → kind_at names id ≡ kind → found_as s id kind ≡ Ok f → kind_at names f.id ≡ Some f.kind
+      at_kind id None at is = cc
+      at_kind id (Some kind) at is = subst (λ (g : Found). kind_at names g.id ≡ Some g.kind) (ok_same is) at
+
+      at_place : (place : Option ℕ) → found_at names s place ≡ Ok f → kind_at names f.id ≡ Some f.kind
+      at_place None is = cc
+      at_place (Some id) is = at_kind id (kind_at names id) refl is
+
+  -- a function without arguments
+  function-sound : (is_over : Bool) (s : Spelled) (id : ℕ) (is_commuting : Bool) (power : Option Power) (g : tree.Factor) → ((link : Link) → P (pieces.Function link id is_commuting))
+      → (size_alone is_over power s >>= (λ size. Ok (tree.function id is_commuting tree.empty size))) ≡ Ok g → IsFactorSound g
+  function-sound is_over s id is_commuting power g kind is =
+      let sized = bind-Ok (size_alone is_over power s) (λ size. Ok (tree.function id is_commuting tree.empty size)) g is in
+      subst IsFactorSound (ok_same sized.2) (λ link. two (pieces.Function link id is_commuting) (pieces.EndOfFunction sized.0) (kind link) (alone-fits is_over power s sized.0 sized.1))
+
+  expression-sound : (b is_over : Bool) (s : Spelled) (id : ℕ) (power : Option Power) (g : tree.Factor) → stands id ≡ b → kind_at names id ≡ Some Expression
+      → (if b then (size_alone is_over power s >>= (λ size. Ok (tree.stored id size))) else Err (wrong s)) ≡ Ok g → IsFactorSound g
+  expression-sound false is_over s id power g there kind is = cc
+  expression-sound true is_over s id power g there kind is =
+      let sized = bind-Ok (size_alone is_over power s) (λ size. Ok (tree.stored id size)) g is in
+      subst IsFactorSound (ok_same sized.2) (λ link. one (pieces.Stored link id sized.0) (kind, there, alone-fits is_over power s sized.0 sized.1))
+
+  kind-sound : (is_over : Bool) (s : Spelled) (power : Option Power) (id : ℕ) (kind : kinds.Kind) (g : tree.Factor) → kind_at names id ≡ Some kind → by_kind stands is_over s power id kind ≡ Ok g → IsFactorSound g
+  kind-sound is_over s power id Symbol g at is = symbol-sound is_over id power g at is
+  kind-sound is_over s power id Vector g at is = cc
+  kind-sound is_over s power id (Index d) g at is = cc
+  kind-sound is_over s power id Function g at is = function-sound is_over s id false power g (λ link. at) is
+  kind-sound is_over s power id CommutingFunction g at is = function-sound is_over s id true power g (λ link. at) is
+  kind-sound is_over s power id Expression g at is = expression-sound (stands id) is_over s id power g refl at is
+
+  name-sound : (is_over : Bool) (n : Named) (power : Option Power) (g : tree.Factor) → name names stands is_over n power ≡ Ok g → IsFactorSound g
+  name-sound is_over (Imaginary spot) power g is =
+      let sized = bind-Ok (size_alone is_over power (spelled_of (Imaginary spot))) (λ size. Ok (tree.imaginary size)) g is in
+      subst IsFactorSound (ok_same sized.2) (λ link. one (pieces.Imaginary link sized.0) (alone-fits is_over power (spelled_of (Imaginary spot)) sized.0 sized.1))
+  name-sound is_over (Declared s) power g is =
+      let f = bind-Ok (found names s) (λ f. by_kind stands is_over s power f.id f.kind) g is in
+      kind-sound is_over s power f.0.id f.0.kind g (found-sound s f.0 f.1) f.2
+
+  -- ---- vectors and indices
+
+  vector-of-sound : (s : Spelled) (id v : ℕ) (kind : kinds.Kind) → kind_at names id ≡ Some kind → vector_of s id kind ≡ Ok v → IsOfKind Vector names v
+  vector-of-sound s id v Vector at is = subst (IsOfKind Vector names) (ok_same is) at
+  vector-of-sound s id v Symbol at is = cc
+  vector-of-sound s id v (Index d) at is = cc
+  vector-of-sound s id v Function at is = cc
+  vector-of-sound s id v CommutingFunction at is = cc
+  vector-of-sound s id v Expression at is = cc
+
+  vector-sound : (n : Named) (v : ℕ) → vector names n ≡ Ok v → IsOfKind Vector names v
+  vector-sound (Imaginary spot) v is = cc
+  vector-sound (Declared s) v is =
+      let f = bind-Ok (found names s) (λ f. vector_of s f.id f.kind) v is in
+      vector-of-sound s f.0.id v f.0.kind (found-sound s f.0 f.1) f.2
+
+  dot-sound : (is_over : Bool) (p q : Named) (power : Option Power) (g : tree.Factor) → dot names is_over p q power ≡ Ok g → IsFactorSound g
+  dot-sound is_over p q power g is =
+      let l = bind-Ok (vector names p) (λ left. vector names q >>= (λ right. size_within largest_exponent power >>= (λ size. Ok (tree.dot left right (exponent is_over power size))))) g is in
+      let r = bind-Ok (vector names q) (λ right. size_within largest_exponent power >>= (λ size. Ok (tree.dot l.0 right (exponent is_over power size)))) g l.2 in
+      let sized = bind-Ok (size_within largest_exponent power) (λ size. Ok (tree.dot l.0 r.0 (exponent is_over power size))) g r.2 in
+      let within : nat_abs (exponent is_over power sized.0) ≤ largest_exponent = rw (size-of-exponent is_over power sized.0) (exponent-fits power sized.0 sized.1) in
+      subst IsFactorSound (ok_same sized.2) (λ link. one (pieces.Dot link l.0 r.0 (exponent is_over power sized.0)) (vector-sound p l.0 l.1, vector-sound q r.0 r.1, within))
+
+  abbrev IsEndSound : ends.End → Type 0
+  IsEndSound (an_end.Fixed n) = n ≤ largest_index
+  IsEndSound (an_end.Index id) = IsIndexSound names (by_index.Declared id)
+  IsEndSound (an_end.Vector id) = IsOfKind Vector names id
+
+  end-of-sound : (s : Spelled) (id : ℕ) (e : ends.End) (kind : kinds.Kind) → kind_at names id ≡ Some kind → end_of s id kind ≡ Ok e → IsEndSound e
+  end-of-sound s id e Vector at is = subst IsEndSound (ok_same is) at
+  end-of-sound s id e (Index d) at is = subst IsEndSound (ok_same is) (d, at)
+  end-of-sound s id e Symbol at is = cc
+  end-of-sound s id e Function at is = cc
+  end-of-sound s id e CommutingFunction at is = cc
+  end-of-sound s id e Expression at is = cc
+
+  end-sound : (e : entries.Entry) (x : ends.End) → end names e ≡ Ok x → IsEndSound x
+  end-sound (by_entry.Number n) x is =
+      let fits = if-Ok (nat_le n.value largest_index) (Ok (an_end.Fixed n.value)) _ _ x is in
+      subst IsEndSound (ok_same fits.1) (leb-true n.value largest_index fits.0)
+  end-sound (by_entry.Name (Imaginary spot)) x is = cc
+  end-sound (by_entry.Name (Declared s)) x is =
+      let f = bind-Ok (found names s) (λ f. end_of s f.id f.kind) x is in
+      end-of-sound s f.0.id x f.0.kind (found-sound s f.0 f.1) f.2
+
+  linked-index-sound : (i : indices.Index) (e : ends.End) (size : ℕ) → IsIndexSound names i → IsEndSound e → size ≤ largest_power → IsFactorSound (linked_index i e size)
+  linked-index-sound i (an_end.Vector p) size h k fits = λ link. one (pieces.Component link (record { vector = p; index = i }) size) (k, h, fits)
+  linked-index-sound i (an_end.Fixed n) size h k fits = λ link. one (pieces.Delta link i (by_index.Fixed n) size) (h, k, fits)
+  linked-index-sound i (an_end.Index j) size h k fits = λ link. one (pieces.Delta link i (by_index.Declared j) size) (h, k, fits)
+
+  linked-sound : (a b : ends.End) (size : ℕ) → IsEndSound a → IsEndSound b → size ≤ largest_power → IsFactorSound (linked a b size)
+  linked-sound (an_end.Vector p) (an_end.Vector q) size h k fits = λ link. one (pieces.Dot link p q (pos size)) (h, k, omega (arith, fits))
+  linked-sound (an_end.Vector p) (an_end.Fixed n) size h k fits = λ link. one (pieces.Component link (record { vector = p; index = by_index.Fixed n }) size) (h, k, fits)
+  linked-sound (an_end.Vector p) (an_end.Index i) size h k fits = λ link. one (pieces.Component link (record { vector = p; index = by_index.Declared i }) size) (h, k, fits)
+  linked-sound (an_end.Fixed n) b size h k fits = linked-index-sound (by_index.Fixed n) b size h k fits
+  linked-sound (an_end.Index i) b size h k fits = linked-index-sound (by_index.Declared i) b size h k fits
+
+  linked-to-sound : (a b : ends.End) (power : Option Power) (g : tree.Factor) → IsEndSound a → IsEndSound b → linked_to a b power ≡ Ok g → IsFactorSound g
+  linked-to-sound a b power g h k is =
+      let sized = bind-Ok (size_within largest_power power) (λ size. Ok (linked a b size)) g is in
+      subst IsFactorSound (ok_same sized.2) (linked-sound a b sized.0 h k (power-fits power sized.0 sized.1))
+
+  delta-sound : (a b : entries.Entry) (power : Option Power) (g : tree.Factor) → delta names a b power ≡ Ok g → IsFactorSound g
+  delta-sound a b power g is =
+      let x = bind-Ok (end names a) (λ first. end names b >>= (λ second. linked_to first second power)) g is in
+      let y = bind-Ok (end names b) (λ second. linked_to x.0 second power) g x.2 in
+      linked-to-sound x.0 y.0 power g (end-sound a x.0 x.1) (end-sound b y.0 y.1) y.2
+
+  -- ---- names with arguments
+
+  abbrev IsHeadSound : heads.Head → Type 0
+  IsHeadSound (a_head.Function id is_commuting) = IsOfKind (if is_commuting then CommutingFunction else Function) names id
+  IsHeadSound (a_head.Vector id) = IsOfKind Vector names id
+
+  head-of-sound : (s : Spelled) (id : ℕ) (h : heads.Head) (kind : kinds.Kind) → kind_at names id ≡ Some kind → head_of s id kind ≡ Ok h → IsHeadSound h
+  head-of-sound s id h Function at is = subst IsHeadSound (ok_same is) at
+  head-of-sound s id h CommutingFunction at is = subst IsHeadSound (ok_same is) at
+  head-of-sound s id h Vector at is = subst IsHeadSound (ok_same is) at
+  head-of-sound s id h Symbol at is = cc
+  head-of-sound s id h (Index d) at is = cc
+  head-of-sound s id h Expression at is = cc
+
+  head-sound : (n : Named) (h : heads.Head) → head names n ≡ Ok h → IsHeadSound h
+  head-sound (Imaginary spot) h is = cc
+  head-sound (Declared s) h is =
+      let f = bind-Ok (found names s) (λ f. head_of s f.id f.kind) h is in
+      head-of-sound s f.0.id h f.0.kind (found-sound s f.0 f.1) f.2
+
+  only-sound : (n : Named) (s : syntax.Sum) (o : Option entries.Entry) (x : ends.End) → only_end names n s o ≡ Ok x → IsEndSound x
+  only-sound n s None x is = cc
+  only-sound n s (Some e) x is = end-sound e x is
+
+  component-sound : (n : Named) (args : syntax.Arguments) (x : ends.End) → component_end names n args ≡ Ok x → IsEndSound x
+  component-sound n (syntax.argument s) x is = only-sound n s (alone s) x is
+  component-sound n (syntax.further args s) x is = cc
+
+  call-sound : (n : Named) (args : syntax.Arguments) (given : Result tree.Arguments Refusal) (power : Option Power) (h : heads.Head) (g : tree.Factor) → IsHeadSound h
+      → ((all : tree.Arguments) → given ≡ Ok all → AreSound (tree.pieces_of_arguments all)) → call_by names n args given power h ≡ Ok g → IsFactorSound g
+  call-sound n args given power (a_head.Vector id) g kind holds is =
+      let x = bind-Ok (component_end names n args) (λ e. linked_to (an_end.Vector id) e power) g is in
+      linked-to-sound (an_end.Vector id) x.0 power g kind (component-sound n args x.0 x.1) x.2
+  call-sound n args given power (a_head.Function id is_commuting) g kind holds is =
+      let all = bind-Ok given (λ all. size_within largest_power power >>= (λ size. Ok (tree.function id is_commuting all size))) g is in
+      let sized = bind-Ok (size_within largest_power power) (λ size. Ok (tree.function id is_commuting all.0 size)) g all.2 in
+      subst IsFactorSound (ok_same sized.2) (λ link. All-cons P (pieces.Function link id is_commuting) (tree.pieces_of_arguments all.0 ++ pieces.EndOfFunction sized.0 ∷ []) kind
+      (All-append P (tree.pieces_of_arguments all.0) (pieces.EndOfFunction sized.0 ∷ []) (holds all.0 all.1) (one (pieces.EndOfFunction sized.0) (power-fits power sized.0 sized.1))))
+
+  empty-call-sound : (n : Named) (power : Option Power) (h : heads.Head) (g : tree.Factor) → IsHeadSound h → empty_call_by n power h ≡ Ok g → IsFactorSound g
+  empty-call-sound n power (a_head.Vector id) g kind is = cc
+  empty-call-sound n power (a_head.Function id is_commuting) g kind is =
+      let sized = bind-Ok (size_within largest_power power) (λ size. Ok (tree.function id is_commuting tree.empty size)) g is in
+      subst IsFactorSound (ok_same sized.2) (λ link. two (pieces.Function link id is_commuting) (pieces.EndOfFunction sized.0) kind (power-fits power sized.0 sized.1))
+
+  abbrev IsArgumentSound : tree.Argument → Type 0
+  IsArgumentSound a = AreSound (tree.pieces_of_argument a)
+
+  lone-of-sound : (id : ℕ) (kind : Option kinds.Kind) (a : tree.Argument) → kind_at names id ≡ kind → lone_of id kind ≡ Some a → IsArgumentSound a
+  lone-of-sound id None a at is = cc
+  lone-of-sound id (Some (Index d)) a at is = subst IsArgumentSound (some_same is) (one (pieces.Index (by_index.Declared id)) (d, at))
+  lone-of-sound id (Some Vector) a at is = subst IsArgumentSound (some_same is) (one (pieces.Vector id) at)
+  lone-of-sound id (Some Symbol) a at is = cc
+  lone-of-sound id (Some Function) a at is = cc
+  lone-of-sound id (Some CommutingFunction) a at is = cc
+  lone-of-sound id (Some Expression) a at is = cc
+
+  lone-at-sound : (place : Option ℕ) (a : tree.Argument) → lone_at names place ≡ Some a → IsArgumentSound a
+  lone-at-sound None a is = cc
+  lone-at-sound (Some id) a is = lone-of-sound id (kind_at names id) a refl is
+
+  lone-sound : (o : Option entries.Entry) (a : tree.Argument) → lone names o ≡ Some a → IsArgumentSound a
+  lone-sound None a is = cc
+  lone-sound (Some (by_entry.Number n)) a is = cc
+  lone-sound (Some (by_entry.Name (Imaginary spot))) a is = cc
+  lone-sound (Some (by_entry.Name (Declared s))) a is = lone-at-sound (lookup names s.name) a is
+
+  argument-sound : (o : Option tree.Argument) (r : Result tree.Sum Refusal) (a : tree.Argument) → ((b : tree.Argument) → o ≡ Some b → IsArgumentSound b)
+      → ((t : tree.Sum) → r ≡ Ok t → AreSound (tree.pieces_of_sum t)) → argument o r ≡ Ok a → IsArgumentSound a
+  argument-sound (Some b) r a alone expression is = subst IsArgumentSound (ok_same is) (alone b refl)
+  argument-sound None r a alone expression is =
+      let t = bind-Ok r (λ s. Ok (tree.expression s)) a is in
+      subst IsArgumentSound (ok_same t.2) (All-cons P pieces.Argument (tree.pieces_of_sum t.0 ++ pieces.EndOfArgument ∷ []) tt
+      (All-append P (tree.pieces_of_sum t.0) (pieces.EndOfArgument ∷ []) (expression t.0 t.1) (one pieces.EndOfArgument tt)))
+
+  -- what is sound where no expression may be named is sound
+  inside : (p : resolved.Piece) → IsPieceSound names none_stands p → P p
+  inside (pieces.Number link value power) h = h
+  inside (pieces.Symbol link id power) h = h
+  inside (pieces.Stored link id power) h = let no : false ≡ true = h.1 in cc
+  inside (pieces.Imaginary link power) h = h
+  inside (pieces.Dot link left right power) h = h
+  inside (pieces.Component link c power) h = h
+  inside (pieces.Delta link i j power) h = h
+  inside (pieces.Function link id is_commuting) h = h
+  inside (pieces.EndOfFunction power) h = h
+  inside (pieces.Index i) h = h
+  inside (pieces.Vector id) h = h
+  inside pieces.Argument h = h
+  inside pieces.EndOfArgument h = h
+  inside (pieces.Open link) h = h
+  inside (pieces.Close power) h = h
+
+mutual
+  pub sum-sound : (names : List Entry) (stands : ℕ → Bool) (s : syntax.Sum) (t : tree.Sum) → sum names stands s ≡ Ok t → AreSound names stands (tree.pieces_of_sum t)
+  sum-sound names stands (syntax.first sign p) t is =
+      let q = bind-Ok (product names stands p) (λ q. Ok (tree.first (is_minus sign) q)) t is in
+      subst (λ (x : tree.Sum). AreSound names stands (tree.pieces_of_sum x)) (ok_same q.2) (product-sound names stands p q.0 q.1 (tree.link_of (is_minus sign)))
+  sum-sound names stands (syntax.more s sign p) t is =
+      let a = bind-Ok (sum names stands s) (λ t. product names stands p >>= (λ q. Ok (tree.more t (is_minus (Some sign)) q))) t is in
+      let q = bind-Ok (product names stands p) (λ q. Ok (tree.more a.0 (is_minus (Some sign)) q)) t a.2 in
+      subst (λ (x : tree.Sum). AreSound names stands (tree.pieces_of_sum x)) (ok_same q.2)
+      (All-append (P names stands) (tree.pieces_of_sum a.0) (tree.pieces_of_product (tree.link_of (is_minus (Some sign))) q.0) (sum-sound names stands s a.0 a.1) (product-sound names stands p q.0 q.1 (tree.link_of (is_minus (Some sign)))))
+
+  product-sound : (names : List Entry) (stands : ℕ → Bool) (p : syntax.Product) (q : tree.Product) → product names stands p ≡ Ok q → (link : Link) → AreSound names stands (tree.pieces_of_product link q)
+  product-sound names stands (syntax.one f) q is link =
+      let g = bind-Ok (factor names stands false f) (λ g. Ok (tree.one g)) q is in
+      subst (λ (x : tree.Product). AreSound names stands (tree.pieces_of_product link x)) (ok_same g.2) (factor-sound names stands false f g.0 g.1 link)
+  product-sound names stands (syntax.times p f) q is link =
+      let a = bind-Ok (product names stands p) (λ q. factor names stands false f >>= (λ g. Ok (tree.times q g))) q is in
+      let g = bind-Ok (factor names stands false f) (λ g. Ok (tree.times a.0 g)) q a.2 in
+      subst (λ (x : tree.Product). AreSound names stands (tree.pieces_of_product link x)) (ok_same g.2)
+      (All-append (P names stands) (tree.pieces_of_product link a.0) (tree.pieces_of_factor Times g.0) (product-sound names stands p a.0 a.1 link) (factor-sound names stands false f g.0 g.1 Times))
+  product-sound names stands (syntax.over p f) q is link =
+      let a = bind-Ok (product names stands p) (λ q. factor names stands true f >>= (λ g. Ok (tree.times q g))) q is in
+      let g = bind-Ok (factor names stands true f) (λ g. Ok (tree.times a.0 g)) q a.2 in
+      subst (λ (x : tree.Product). AreSound names stands (tree.pieces_of_product link x)) (ok_same g.2)
+      (All-append (P names stands) (tree.pieces_of_product link a.0) (tree.pieces_of_factor Times g.0) (product-sound names stands p a.0 a.1 link) (factor-sound names stands true f g.0 g.1 Times))
+
+  factor-sound : (names : List Entry) (stands : ℕ → Bool) (is_over : Bool) (f : syntax.Factor) (g : tree.Factor) → factor names stands is_over f ≡ Ok g → IsFactorSound names stands g
+  factor-sound names stands is_over (syntax.factor (syntax.number n) power) g is = number-sound names stands is_over n power g is
+  factor-sound names stands is_over (syntax.factor (syntax.name n) power) g is = name-sound names stands is_over n power g is
+  factor-sound names stands is_over (syntax.factor (syntax.dot p q) power) g is = dot-sound names stands is_over p q power g is
+  factor-sound names stands is_over (syntax.factor (syntax.delta spot a b) power) g is = delta-sound names stands a b power g is
+  factor-sound names stands is_over (syntax.factor (syntax.empty_call n) power) g is =
+      let h = bind-Ok (head names n) (empty_call_by n power) g is in
+      empty-call-sound names stands n power h.0 g (head-sound names stands n h.0 h.1) h.2
+  factor-sound names stands is_over (syntax.factor (syntax.call n args) power) g is =
+      let h = bind-Ok (head names n) (call_by names n args (arguments names args) power) g is in
+      call-sound names stands n args (arguments names args) power h.0 g (head-sound names stands n h.0 h.1) (λ all e. arguments-sound names stands args all e) h.2
+  factor-sound names stands is_over (syntax.factor (syntax.parenthesis s) power) g is =
+      let t = bind-Ok (sum names stands s) (λ t. size_within largest_power power >>= (λ size. Ok (tree.parenthesis t size))) g is in
+      let sized = bind-Ok (size_within largest_power power) (λ size. Ok (tree.parenthesis t.0 size)) g t.2 in
+      subst (IsFactorSound names stands) (ok_same sized.2) (λ link. All-cons (P names stands) (pieces.Open link) (tree.pieces_of_sum t.0 ++ pieces.Close sized.0 ∷ []) tt
+      (All-append (P names stands) (tree.pieces_of_sum t.0) (pieces.Close sized.0 ∷ []) (sum-sound names stands s t.0 t.1) (one names stands (pieces.Close sized.0) (power-fits power sized.0 sized.1))))
+
+  arguments-sound : (names : List Entry) (stands : ℕ → Bool) (args : syntax.Arguments) (all : tree.Arguments) → arguments names args ≡ Ok all → AreSound names stands (tree.pieces_of_arguments all)
+  arguments-sound names stands (syntax.argument s) all is =
+      let a = bind-Ok (argument (lone names (alone s)) (sum names none_stands s)) (λ a. Ok (tree.further tree.empty a)) all is in
+      subst (λ (x : tree.Arguments). AreSound names stands (tree.pieces_of_arguments x)) (ok_same a.2)
+      (argument-sound names stands (lone names (alone s)) (sum names none_stands s) a.0 (λ b e. lone-sound names stands (alone s) b e)
+      (λ t e. All-weaker (IsPieceSound names none_stands) (IsPieceSound names stands) (inside names stands) (tree.pieces_of_sum t) (sum-sound names none_stands s t e)) a.1)
+  arguments-sound names stands (syntax.further args s) all is =
+      let before = bind-Ok (arguments names args) (λ before. argument (lone names (alone s)) (sum names none_stands s) >>= (λ a. Ok (tree.further before a))) all is in
+      let a = bind-Ok (argument (lone names (alone s)) (sum names none_stands s)) (λ a. Ok (tree.further before.0 a)) all before.2 in
+      subst (λ (x : tree.Arguments). AreSound names stands (tree.pieces_of_arguments x)) (ok_same a.2)
+      (All-append (P names stands) (tree.pieces_of_arguments before.0) (tree.pieces_of_argument a.0) (arguments-sound names stands args before.0 before.1)
+      (argument-sound names stands (lone names (alone s)) (sum names none_stands s) a.0 (λ b e. lone-sound names stands (alone s) b e)
+      (λ t e. All-weaker (IsPieceSound names none_stands) (IsPieceSound names stands) (inside names stands) (tree.pieces_of_sum t) (sum-sound names none_stands s t e)) a.1))

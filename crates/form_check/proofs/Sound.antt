@@ -1,9 +1,13 @@
 -- A program that is checked is sound.
-use Rattle.std.proofs.Common.{◌≡◌, ℕ, Bool, List, [], ◌∷◌, ◌++◌, All, Option, Some, None, Result, Ok, refl, sym, ap, subst, ◌∙◌, append_assoc}
+use Rattle.std.proofs.Common.{◌≡◌, ℕ, Bool, List, [], ◌∷◌, ◌++◌, All, Option, Some, None, Result, Ok, refl, sym, ap, subst, ◌∙◌, append_assoc, if◌then◌else◌}
 use Rattle.std.proofs.lemmas.List.{append-nil}
 use Rattle.std.proofs.lemmas.List.Elements.{All-nil, All-head, All-tail, All-push, All-weaker}
 use Rattle.form_names.specs.declared.kind.Kind.{Kind}
-use Rattle.form_names.specs.declared.kind.Kind.TheVariants.{Symbol, Expression}
+use Rattle.form_names.specs.declared.kind.Kind.TheVariants.{Symbol, Vector, Function, CommutingFunction, Expression}
+use Rattle.form_names.specs.declared.kind.Kind.TheVariants as kinds
+use Rattle.form_names.specs.declared.kind.Dimension.{Dimension}
+use Rattle.form_term.specs.declared.index.Index.{Index}
+use Rattle.form_term.specs.declared.index.Index.TheVariants as indices
 use Rattle.form_names.specs.Names.{Entry, lookup, kind_at}
 use Rattle.form_ast.specs.declared.expr.Spelled.{Spelled}
 use Rattle.form_ast.specs.declared.expr.Expr.{Expr}
@@ -18,23 +22,44 @@ use Rattle.form_check.specs.declared.checked.Checked.{Checked}
 use Rattle.form_check.specs.declared.checked.Checked.TheVariants.{Drop, Skip, Local, Print}
 use Rattle.form_check.specs.declared.checked.Selection.{Selection}
 use Rattle.form_check.specs.declared.checked.Selection.TheVariants as selections
-use Rattle.form_check.specs.Checking.{State, start, ended, with_statement, declared, symbol, expression, expressions, expression_at, expression_of_kind, selection, definition, by_form, statement, class_of, is_defined_again, module_checked, program}
+use Rattle.form_check.specs.Checking.{State, start, ended, with_statement, declared, named, kind_declared, dimension, index, expression, expressions, expression_of, selection, definition, by_form, statement, class_of, is_defined_again, module_checked, program}
 use Rattle.form_check.specs.Refusal.{Refusal, ◌>>=◌, each, listed}
-use Rattle.form_check.specs.RightSide.{piece, right_side}
+use Rattle.form_check.specs.RightSide.{found, none_stands, sum, pieces_from, right_side}
+use Rattle.form_check.specs.Checker.{Keeps}
+use Rattle.form_ast.specs.declared.expr.Piece as written_piece
+use Rattle.form_ast.specs.Building.{tree_of}
+use Rattle.form_ast.specs.Syntax as syntax
+use Rattle.form_tree.specs.Tree.{pieces_of_sum}
 use Rattle.form_check.specs.Program.{Program}
-use Rattle.form_check.specs.Sound.{IsOfKind, IsPieceSound, IsRightSideSound, IsSelectionSound, IsStatementSound, AreModulesSound, IsSound}
+use Rattle.form_check.specs.Sound.{IsOfKind, IsIndexSound, IsPieceSound, IsRightSideSound, IsSelectionSound, IsStatementSound, AreModulesSound, IsSound}
 use Rattle.form_check.specs.Standing.{stands}
-use Rattle.form_check.proofs.Growing.{Grows, bind-Ok, else-Ok, ok_same, declared-Ok, symbols-grow}
-use Rattle.form_check.proofs.Pieces.{piece-Ok}
-use Rattle.form_check.proofs.Trees.{listed-All, sum-tree}
+use Rattle.form_check.proofs.Growing.{bind-Ok, else-Ok, ok_same, declared-Ok, named-keeps, index-keeps, all-keep}
+use Rattle.form_check.proofs.Pieces.{found-sound, sum-sound}
+use Rattle.form_check.proofs.Lists.{listed-All}
+use Rattle.form_check.proofs.Whole.{whole-tree}
 
 -- ---- names that are added change nothing
 
-module _ (old new : List Entry) (grows : Grows old new) where
+module _ (old new : List Entry) (grows : Keeps old new) where
+  index-grows : (i : Index) → IsIndexSound old i → IsIndexSound new i
+  index-grows (indices.Fixed n) h = h
+  index-grows (indices.Declared id) h = (h.0, grows id (kinds.Index h.0) h.1)
+  index-grows (indices.Dummy n) h = h
+
   piece-grows : (standing : ℕ → Bool) (p : Piece) → IsPieceSound old standing p → IsPieceSound new standing p
   piece-grows standing (pieces.Number link value power) h = h
   piece-grows standing (pieces.Symbol link id power) h = (grows id Symbol h.0, h.1)
   piece-grows standing (pieces.Stored link id power) h = (grows id Expression h.0, h.1, h.2)
+  piece-grows standing (pieces.Imaginary link power) h = h
+  piece-grows standing (pieces.Dot link left right power) h = (grows left Vector h.0, grows right Vector h.1, h.2)
+  piece-grows standing (pieces.Component link c power) h = (grows c.vector Vector h.0, index-grows c.index h.1, h.2)
+  piece-grows standing (pieces.Delta link i j power) h = (index-grows i h.0, index-grows j h.1, h.2)
+  piece-grows standing (pieces.Function link id is_commuting) h = grows id (if is_commuting then CommutingFunction else Function) h
+  piece-grows standing (pieces.EndOfFunction power) h = h
+  piece-grows standing (pieces.Index i) h = index-grows i h
+  piece-grows standing (pieces.Vector id) h = grows id Vector h
+  piece-grows standing pieces.Argument h = h
+  piece-grows standing pieces.EndOfArgument h = h
   piece-grows standing (pieces.Open link) h = h
   piece-grows standing (pieces.Close power) h = h
 
@@ -70,30 +95,25 @@ modules-push names earlier (first ∷ rest) m h each =
 
 -- ---- what is made is sound
 
-kind-Ok : (names : List Entry) (spelled : Spelled) (place id : ℕ) (kind : Option Kind) → kind_at names place ≡ kind → expression_of_kind kind place spelled ≡ Ok id → IsOfKind Expression names id
-kind-Ok names spelled place id None at is = cc
-kind-Ok names spelled place id (Some Symbol) at is = cc
-kind-Ok names spelled place id (Some Expression) at is =
+kind-Ok : (names : List Entry) (spelled : Spelled) (place id : ℕ) (kind : Kind) → kind_at names place ≡ Some kind → expression_of spelled place kind ≡ Ok id → IsOfKind Expression names id
+kind-Ok names spelled place id Symbol at is = cc
+kind-Ok names spelled place id Vector at is = cc
+kind-Ok names spelled place id (kinds.Index d) at is = cc
+kind-Ok names spelled place id Function at is = cc
+kind-Ok names spelled place id CommutingFunction at is = cc
+kind-Ok names spelled place id Expression at is =
     subst (λ (i : ℕ). kind_at names i ≡ Some Expression) (ok_same is) at
 
-place-Ok : (names : List Entry) (spelled : Spelled) (id : ℕ) (place : Option ℕ) → expression_at names place spelled ≡ Ok id → IsOfKind Expression names id
-place-Ok names spelled id None is = cc
-place-Ok names spelled id (Some place) is = kind-Ok names spelled place id (kind_at names place) refl is
+place-Ok : (names : List Entry) (spelled : Spelled) (id : ℕ) → expression names spelled ≡ Ok id → IsOfKind Expression names id
+place-Ok names spelled id is =
+    let f = bind-Ok (found names spelled) (λ f. expression_of spelled f.id f.kind) id is in
+    kind-Ok names spelled f.0.id id f.0.kind (found-sound names none_stands spelled f.0 f.1) f.2
 
 selection-Ok : (names : List Entry) (list : List Spelled) (which : Selection) → selection names list ≡ Ok which → IsSelectionSound names which
 selection-Ok names [] which is = subst (IsSelectionSound names) (ok_same is) tt
 selection-Ok names (first ∷ rest) which is =
     let found = bind-Ok (expressions names (first ∷ rest)) (λ ids. Ok (selections.Named ids)) which is in
-    subst (IsSelectionSound names) (ok_same found.2) (listed-All (expression names) (IsOfKind Expression names) (λ s id e. place-Ok names s id (lookup names s.name) e) (first ∷ rest) found.0 found.1)
-
-right_side-Ok : (names : List Entry) (standing : ℕ → Bool) (right : Expr) (list : Tree) → AreLawful right → right_side names standing right ≡ Ok list → IsRightSideSound names standing list
-right_side-Ok names standing right list lawful is =
-    let found = sum-tree names standing lawful.tree list (ap (listed (piece names standing)) (sym lawful.pieces) ∙ is) in
-    record {
-      tree = found.0;
-      pieces = found.1;
-      each = listed-All (piece names standing) (IsPieceSound names standing) (piece-Ok names standing) right list is;
-    }
+    subst (IsSelectionSound names) (ok_same found.2) (listed-All (expression names) (IsOfKind Expression names) (λ s id e. place-Ok names s id e) (first ∷ rest) found.0 found.1)
 
 -- ---- states
 
@@ -102,7 +122,7 @@ record IsStateSound (s : State) : Type 0 where
   statements : All (IsStatementSound s.names (stands s.earlier)) s.statements
 
 -- the names of a state grow
-names-grow : (s : State) (names : List Entry) → Grows s.names names → IsStateSound s → IsStateSound (record s { names = names })
+names-grow : (s : State) (names : List Entry) → Keeps s.names names → IsStateSound s → IsStateSound (record s { names = names })
 names-grow s names grows h = record {
   earlier = modules-grow s.names names grows [] s.earlier h.earlier;
   statements = All-weaker (IsStatementSound s.names (stands s.earlier)) (IsStatementSound names (stands s.earlier)) (statement-grows s.names names grows (stands s.earlier)) s.statements h.statements;
@@ -119,51 +139,69 @@ selected s t list made holds is h =
     let found = bind-Ok (selection s.names list) (λ which. Ok (with_statement s (made which))) t is in
     subst IsStateSound (ok_same found.2) (pushed s (made found.0) (holds found.0 (selection-Ok s.names list found.0 found.1)) h)
 
-defined : (s t : State) (spelled : Spelled) (right : Expr) → AreLawful right → definition s spelled right ≡ Ok t → IsStateSound s → IsStateSound t
-defined s t spelled right lawful is h =
-    let new = else-Ok (is_defined_again s (lookup s.names spelled.name)) (declared s.names spelled Expression >>= (λ d. right_side d.1 (stands s.earlier) right >>= (λ list. Ok (with_statement (record s { names = d.1 }) (Local d.0 list))))) _ _ t is in
-    let made = bind-Ok (declared s.names spelled Expression) (λ d. right_side d.1 (stands s.earlier) right >>= (λ list. Ok (with_statement (record s { names = d.1 }) (Local d.0 list)))) t new.1 in
-    let names : List Entry = made.0.1 in
-    let list = bind-Ok (right_side names (stands s.earlier) right) (λ list. Ok (with_statement (record s { names = names }) (Local made.0.0 list))) t made.2 in
-    let declares = declared-Ok s.names spelled Expression made.0 made.1 in
-    subst IsStateSound (ok_same list.2) (pushed (record s { names = names }) (Local made.0.0 list.0) (declares.stands, right_side-Ok names (stands s.earlier) right list.0 lawful list.1) (names-grow s names declares.grows h))
+-- where each tree is found again from its pieces
+module _ (law : (tree : syntax.Sum) → tree_of (syntax.pieces_of_sum tree) ≡ Some tree) where
+  right_side-Ok : (names : List Entry) (standing : ℕ → Bool) (right : Expr) (list : Tree) → AreLawful right → right_side names standing right ≡ Ok list → IsRightSideSound names standing list
+  right_side-Ok names standing right list lawful is =
+      let found = bind-Ok (sum names standing lawful.tree) (λ t. Ok (pieces_of_sum t)) list (sym (whole-tree names standing law right lawful) ∙ is) in
+      record {
+        tree = found.0;
+        pieces = sym (ok_same found.2);
+        each = subst (All (IsPieceSound names standing)) (ok_same found.2) (sum-sound names standing lawful.tree found.0 found.1);
+      }
 
-formed : (s t : State) (form : Statement) → IsLawfulStatement form → by_form s form ≡ Ok t → IsStateSound s → IsStateSound t
-formed s t (written.Symbols list) lawful is h =
-    let found = bind-Ok (each symbol s.names list) (λ names. Ok (record s { names = names })) t is in
-    subst IsStateSound (ok_same found.2) (names-grow s found.0 (symbols-grow list s.names found.0 found.1) h)
-formed s t (written.Drop list) lawful is h = selected s t list Drop (λ which k. k) is h
-formed s t (written.Skip list) lawful is h = selected s t list Skip (λ which k. k) is h
-formed s t (written.Local spelled right) lawful is h = defined s t spelled right lawful is h
-formed s t (written.Print list) lawful is h = selected s t list Print (λ which k. k) is h
+  defined : (s t : State) (spelled : Spelled) (right : Expr) → AreLawful right → definition s spelled right ≡ Ok t → IsStateSound s → IsStateSound t
+  defined s t spelled right lawful is h =
+      let new = else-Ok (is_defined_again s (lookup s.names spelled.name)) (declared s.names spelled Expression >>= (λ d. right_side d.1 (stands s.earlier) right >>= (λ list. Ok (with_statement (record s { names = d.1 }) (Local d.0 list))))) _ _ t is in
+      let made = bind-Ok (declared s.names spelled Expression) (λ d. right_side d.1 (stands s.earlier) right >>= (λ list. Ok (with_statement (record s { names = d.1 }) (Local d.0 list)))) t new.1 in
+      let names : List Entry = made.0.1 in
+      let list = bind-Ok (right_side names (stands s.earlier) right) (λ list. Ok (with_statement (record s { names = names }) (Local made.0.0 list))) t made.2 in
+      let declares = declared-Ok s.names spelled Expression made.0 made.1 in
+      subst IsStateSound (ok_same list.2) (pushed (record s { names = names }) (Local made.0.0 list.0) (declares.stands, right_side-Ok names (stands s.earlier) right list.0 lawful list.1) (names-grow s names declares.grows h))
 
-stated : (s t : State) (placed : Placed) → IsLawfulStatement placed.statement → statement s placed ≡ Ok t → IsStateSound s → IsStateSound t
-stated s t placed lawful is h =
-    let in_order = else-Ok _ (by_form (record s { class = class_of placed.statement }) placed.statement) _ _ t is in
-    formed (record s { class = class_of placed.statement }) t placed.statement lawful in_order.1 (record { earlier = h.earlier; statements = h.statements })
+  formed : (s t : State) (form : Statement) → IsLawfulStatement form → by_form s form ≡ Ok t → IsStateSound s → IsStateSound t
+  formed s t (written.Names declared list) lawful is h =
+      let found = bind-Ok (each (named (kind_declared declared)) s.names list) (λ names. Ok (record s { names = names })) t is in
+      subst IsStateSound (ok_same found.2) (names-grow s found.0 (all-keep (named (kind_declared declared)) (named-keeps (kind_declared declared)) list s.names found.0 found.1) h)
+  formed s t (written.Indices list) lawful is h =
+      let found = bind-Ok (each (index s.dimension) s.names list) (λ names. Ok (record s { names = names })) t is in
+      subst IsStateSound (ok_same found.2) (names-grow s found.0 (all-keep (index s.dimension) (index-keeps s.dimension) list s.names found.0 found.1) h)
+  formed s t (written.Dimension d) lawful is h =
+      let found = bind-Ok (dimension s.names d) (λ holds. Ok (record s { dimension = holds })) t is in
+      subst IsStateSound (ok_same found.2) (record { earlier = h.earlier; statements = h.statements })
+  formed s t written.Statistics lawful is h = subst IsStateSound (ok_same is) h
+  formed s t (written.Drop list) lawful is h = selected s t list Drop (λ which k. k) is h
+  formed s t (written.Skip list) lawful is h = selected s t list Skip (λ which k. k) is h
+  formed s t (written.Local spelled right) lawful is h = defined s t spelled right lawful is h
+  formed s t (written.Print list) lawful is h = selected s t list Print (λ which k. k) is h
 
--- what each step keeps is kept by all
-each-keeps : {S X : Type 0} (step : S → X → Result S Refusal) (P : S → Type 0) (Q : X → Type 0) → ((s t : S) (x : X) → Q x → step s x ≡ Ok t → P s → P t) → (s t : S) (xs : List X) → All Q xs → each step s xs ≡ Ok t → P s → P t
-each-keeps step P Q keeps s t [] all is h = subst P (ok_same is) h
-each-keeps step P Q keeps s t (x ∷ xs) all is h =
-    let first = bind-Ok (step s x) (λ next. each step next xs) t is in
-    each-keeps step P Q keeps first.0 t xs (All-tail Q x xs all) first.2 (keeps s first.0 x (All-head Q x xs all) first.1 h)
+  stated : (s t : State) (placed : Placed) → IsLawfulStatement placed.statement → statement s placed ≡ Ok t → IsStateSound s → IsStateSound t
+  stated s t placed lawful is h =
+      let in_order = else-Ok _ (by_form (record s { class = class_of placed.statement }) placed.statement) _ _ t is in
+      formed (record s { class = class_of placed.statement }) t placed.statement lawful in_order.1 (record { earlier = h.earlier; statements = h.statements })
 
-closed : (s t : State) (list : List Placed) → All (λ placed. IsLawfulStatement placed.statement) list → module_checked s list ≡ Ok t → IsStateSound s → IsStateSound t
-closed s t list lawful is h =
-    let after = bind-Ok (each statement s list) (λ next. Ok (ended next)) t is in
-    let sound = each-keeps statement IsStateSound (λ placed. IsLawfulStatement placed.statement) stated s after.0 list lawful after.1 h in
-    subst IsStateSound (ok_same after.2) (record {
-      earlier = modules-push after.0.names [] after.0.earlier after.0.statements sound.earlier sound.statements;
-      statements = All-nil (IsStatementSound after.0.names (stands (after.0.earlier ++ after.0.statements ∷ [])));
-    })
+  -- what each step keeps is kept by all
+  each-keeps : {S X : Type 0} (step : S → X → Result S Refusal) (P : S → Type 0) (Q : X → Type 0) → ((s t : S) (x : X) → Q x → step s x ≡ Ok t → P s → P t) → (s t : S) (xs : List X) → All Q xs → each step s xs ≡ Ok t → P s → P t
+  each-keeps step P Q keeps s t [] all is h = subst P (ok_same is) h
+  each-keeps step P Q keeps s t (x ∷ xs) all is h =
+      let first = bind-Ok (step s x) (λ next. each step next xs) t is in
+      each-keeps step P Q keeps first.0 t xs (All-tail Q x xs all) first.2 (keeps s first.0 x (All-head Q x xs all) first.1 h)
 
-pub sound : (modules : List (List Placed)) (s : State) → AreLawfulModules modules → each module_checked start modules ≡ Ok s → AreModulesSound s.names [] s.earlier
-sound modules s lawful is =
-    let all = each-keeps module_checked IsStateSound (λ list. All (λ placed. IsLawfulStatement placed.statement) list) closed start s modules lawful is (record { earlier = tt; statements = All-nil (IsStatementSound [] (stands [])) }) in
-    all.earlier
+  closed : (s t : State) (list : List Placed) → All (λ placed. IsLawfulStatement placed.statement) list → module_checked s list ≡ Ok t → IsStateSound s → IsStateSound t
+  closed s t list lawful is h =
+      let after = bind-Ok (each statement s list) (λ next. Ok (ended next)) t is in
+      let sound = each-keeps statement IsStateSound (λ placed. IsLawfulStatement placed.statement) stated s after.0 list lawful after.1 h in
+      subst IsStateSound (ok_same after.2) (record {
+        earlier = modules-push after.0.names [] after.0.earlier after.0.statements sound.earlier sound.statements;
+        statements = All-nil (IsStatementSound after.0.names (stands (after.0.earlier ++ after.0.statements ∷ [])));
+      })
 
-pub checked_is_sound : (modules : List (List Placed)) (checked : Program) → AreLawfulModules modules → program modules ≡ Ok checked → IsSound checked
-checked_is_sound modules checked lawful is =
-    let state = bind-Ok (each module_checked start modules) (λ s. Ok (record { names = s.names; modules = s.earlier })) checked is in
-    subst IsSound (ok_same state.2) (sound modules state.0 lawful state.1)
+  pub sound : (modules : List (List Placed)) (s : State) → AreLawfulModules modules → each module_checked start modules ≡ Ok s → AreModulesSound s.names [] s.earlier
+  sound modules s lawful is =
+      let all = each-keeps module_checked IsStateSound (λ list. All (λ placed. IsLawfulStatement placed.statement) list) closed start s modules lawful is (record { earlier = tt; statements = All-nil (IsStatementSound [] (stands [])) }) in
+      all.earlier
+
+  pub checked_is_sound : (modules : List (List Placed)) (checked : Program) → AreLawfulModules modules → program modules ≡ Ok checked → IsSound checked
+  checked_is_sound modules checked lawful is =
+      let state = bind-Ok (each module_checked start modules) (λ s. Ok (record { names = s.names; modules = s.earlier })) checked is in
+      subst IsSound (ok_same state.2) (sound modules state.0 lawful state.1)

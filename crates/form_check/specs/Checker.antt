@@ -1,5 +1,8 @@
 -- What a checker knows.
-use Rattle.std.specs.Prelude.{◌≤◌, length}
+use Rattle.std.specs.Prelude.{◌≡◌, ◌≤◌, ℕ, List, Some, length}
+use Rattle.form_names.specs.declared.kind.Kind.{Kind}
+use Rattle.form_names.specs.declared.kind.Dimension.{Dimension}
+use Rattle.form_names.specs.Names.{Entry, kind_at, IsDimension}
 use Rattle.form_check.specs.declared.checker.Checker.{Checker}
 use Rattle.form_check.specs.Checking.{State, most_names}
 use Rattle.form_check.specs.Marks.{AreMarksOf}
@@ -7,12 +10,22 @@ use Rattle.form_check.specs.Marks.{AreMarksOf}
 abbrev pub state_of : Checker → State
 state_of checker = record {
   names = checker.names;
+  dimension = checker.dimension;
   earlier = checker.modules.items;
   statements = checker.statements.items;
   class = checker.class;
 }
 
--- the marks agree with the statements, and no more names are declared than may be
+-- the marks agree with the statements, no more names are declared than may be, and the dimension is one
 pub record IsConsistent (checker : Checker) : Type 0 where
   pub marks : AreMarksOf checker.standing checker.modules.items checker.statements.items
   pub names : length checker.names ≤ most_names
+  pub dimension : IsDimension checker.names checker.dimension
+
+-- what stands keeps its kind
+abbrev pub Keeps : List Entry → List Entry → Type 0
+Keeps old new = (id : ℕ) (kind : Kind) → kind_at old id ≡ Some kind → kind_at new id ≡ Some kind
+
+-- what is a dimension stays one
+abbrev pub KeepsDimensions : List Entry → List Entry → Type 0
+KeepsDimensions old new = (d : Dimension) → IsDimension old d → IsDimension new d

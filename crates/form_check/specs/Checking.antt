@@ -1,11 +1,18 @@
 -- The program that a text is, over Ids, or the first refusal in the order of the text.
-use Rattle.std.specs.Prelude.{ℕ, Bool, false, nat_lt, nat_le, if◌then◌else◌, List, [], ◌∷◌, ◌++◌, length, Option, Some, None, Result, Ok}
+use Rattle.std.specs.Prelude.{ℕ, Bool, false, nat_lt, nat_le, if◌then◌else◌, List, [], ◌∷◌, ◌++◌, length, Option, Some, None, Result, Ok, Err}
 use Rattle.form_base.specs.declared.cause.Cause.TheVariants.{StatementOrder, Undeclared, Redeclared, WrongKind, NumberRange}
 use Rattle.form_names.specs.declared.kind.Kind.{Kind}
-use Rattle.form_names.specs.declared.kind.Kind.TheVariants.{Symbol, Expression}
-use Rattle.form_names.specs.Names.{Entry, lookup, kind_at, declare}
+use Rattle.form_names.specs.declared.kind.Kind.TheVariants.{Symbol, Vector, Index, Function, CommutingFunction, Expression}
+use Rattle.form_names.specs.declared.kind.Dimension.{Dimension}
+use Rattle.form_names.specs.declared.kind.Dimension.TheVariants as dimensions
+use Rattle.form_names.specs.Names.{Entry, lookup, kind_at, declare, largest_dimension}
 use Rattle.form_ast.specs.declared.expr.Spelled.{Spelled}
 use Rattle.form_ast.specs.declared.expr.Expr.{Expr}
+use Rattle.form_ast.specs.declared.index_list.Dimension as written_dimension
+use Rattle.form_ast.specs.declared.index_list.Dimension.TheVariants as by_dimension
+use Rattle.form_ast.specs.declared.index_list.SpelledIndex.{SpelledIndex}
+use Rattle.form_ast.specs.declared.statement.Declared.{Declared}
+use Rattle.form_ast.specs.declared.statement.Declared.TheVariants.{Symbols, Vectors, Functions, CFunctions}
 use Rattle.form_ast.specs.declared.statement.Statement.{Statement}
 use Rattle.form_ast.specs.declared.statement.Statement.TheVariants as written
 use Rattle.form_ast.specs.declared.statement.Placed.{Placed}
@@ -15,7 +22,7 @@ use Rattle.form_check.specs.declared.checked.Selection.{Selection}
 use Rattle.form_check.specs.declared.checked.Selection.TheVariants as selections
 use Rattle.form_check.specs.Program.{Program}
 use Rattle.form_check.specs.Refusal.{Refusal, refused, ◌>>=◌, each, listed}
-use Rattle.form_check.specs.RightSide.{right_side}
+use Rattle.form_check.specs.RightSide.{found, wrong_kind, right_side}
 use Rattle.form_check.specs.Standing.{defines, stands}
 
 -- how many names may be declared
@@ -38,23 +45,50 @@ abbrev pub declared : List Entry → Spelled → Kind → Result (ℕ × List En
 declared names spelled kind =
     if is_past_limit names (lookup names spelled.name) then refused NumberRange spelled.spot else declared_once (declare names spelled.name kind) spelled
 
-abbrev pub symbol : List Entry → Spelled → Result (List Entry) Refusal
-symbol names spelled = do
-  declaration ← declared names spelled Symbol
+abbrev pub kind_declared : Declared → Kind
+kind_declared Symbols = Symbol
+kind_declared Vectors = Vector
+kind_declared Functions = Function
+kind_declared CFunctions = CommutingFunction
+
+-- the names with one more of this kind
+abbrev pub named : Kind → List Entry → Spelled → Result (List Entry) Refusal
+named kind names spelled = do
+  declaration ← declared names spelled kind
   Ok declaration.1
 
-abbrev pub expression_of_kind : Option Kind → ℕ → Spelled → Result ℕ Refusal
-expression_of_kind None id spelled = refused (Undeclared spelled.name) spelled.spot
-expression_of_kind (Some Symbol) id spelled = refused (WrongKind spelled.name) spelled.spot
-expression_of_kind (Some Expression) id spelled = Ok id
+abbrev pub symbol_of : Spelled → ℕ → Kind → Result Dimension Refusal
+symbol_of s id Symbol = Ok (dimensions.Symbol id)
+symbol_of s id _ = wrong_kind s
 
-abbrev pub expression_at : List Entry → Option ℕ → Spelled → Result ℕ Refusal
-expression_at names None spelled = refused (Undeclared spelled.name) spelled.spot
-expression_at names (Some id) spelled = expression_of_kind (kind_at names id) id spelled
+-- a written dimension: a number up to the largest, or a symbol
+abbrev pub dimension : List Entry → written_dimension.Dimension → Result Dimension Refusal
+dimension names (by_dimension.Number n) = if nat_le n.value largest_dimension then Ok (dimensions.Number n.value) else refused NumberRange n.spot
+dimension names (by_dimension.Name s) = found names s >>= (λ f. symbol_of s f.id f.kind)
+
+-- the dimension of an index that is declared: the one that is written, or the one that holds from here on
+abbrev pub dimension_or : Dimension → List Entry → Option written_dimension.Dimension → Result Dimension Refusal
+dimension_or default names None = Ok default
+dimension_or default names (Some d) = dimension names d
+
+abbrev pub index_with : List Entry → Spelled → Option ℕ → Result Dimension Refusal → Result (List Entry) Refusal
+index_with names spelled place (Ok d) = named (Index d) names spelled
+index_with names spelled (Some id) (Err refusal) = refused (Redeclared spelled.name) spelled.spot
+index_with names spelled None (Err refusal) = Err refusal
+
+-- The names with one more index. Its name stands before its dimension: so a name that stands is refused first, and so is
+-- one past the limit.
+abbrev pub index : Dimension → List Entry → SpelledIndex → Result (List Entry) Refusal
+index default names i =
+    if is_past_limit names (lookup names i.name.name) then refused NumberRange i.name.spot else index_with names i.name (lookup names i.name.name) (dimension_or default names i.dimension)
+
+abbrev pub expression_of : Spelled → ℕ → Kind → Result ℕ Refusal
+expression_of s id Expression = Ok id
+expression_of s id _ = wrong_kind s
 
 -- the Id of an expression's name; the expression needn't stand
 abbrev pub expression : List Entry → Spelled → Result ℕ Refusal
-expression names spelled = expression_at names (lookup names spelled.name) spelled
+expression names s = found names s >>= (λ f. expression_of s f.id f.kind)
 
 abbrev pub expressions : List Entry → List Spelled → Result (List ℕ) Refusal
 expressions names list = listed (expression names) list
@@ -68,16 +102,21 @@ selection names (first ∷ rest) = do
 
 -- ---- statements
 
--- what is known before a statement: the names, the modules before, this one so far, and its highest class
+-- what is known before a statement: the names, the dimension of an index that is declared without one, the modules
+-- before, this one so far, and its highest class
 pub record State : Type 0 where
   pub names : List Entry
+  pub dimension : Dimension
   pub earlier : List (List Checked)
   pub statements : List Checked
   pub class : ℕ
 
 -- declarations, what is dropped or skipped, definitions, output: in this order they stand in a module
 abbrev pub class_of : Statement → ℕ
-class_of (written.Symbols names) = 1
+class_of (written.Names declared names) = 1
+class_of (written.Indices indices) = 1
+class_of (written.Dimension d) = 1
+class_of written.Statistics = 1
 class_of (written.Drop names) = 2
 class_of (written.Skip names) = 2
 class_of (written.Local name right) = 3
@@ -102,9 +141,16 @@ definition state spelled right =
       Ok (with_statement (record state { names = declaration.1 }) (Local declaration.0 pieces)))
 
 abbrev pub by_form : State → Statement → Result State Refusal
-by_form state (written.Symbols list) = do
-  names ← each symbol state.names list
+by_form state (written.Names declared list) = do
+  names ← each (named (kind_declared declared)) state.names list
   Ok (record state { names = names })
+by_form state (written.Indices list) = do
+  names ← each (index state.dimension) state.names list
+  Ok (record state { names = names })
+by_form state (written.Dimension d) = do
+  holds ← dimension state.names d
+  Ok (record state { dimension = holds })
+by_form state written.Statistics = Ok state
 by_form state (written.Drop list) = do
   which ← selection state.names list
   Ok (with_statement state (Drop which))
@@ -125,11 +171,11 @@ statement state placed =
 
 -- before the first module
 abbrev pub start : State
-start = record { names = []; earlier = []; statements = []; class = 0 }
+start = record { names = []; dimension = dimensions.Number 4; earlier = []; statements = []; class = 0 }
 
 -- after a module
 abbrev pub ended : State → State
-ended state = record { names = state.names; earlier = state.earlier ++ state.statements ∷ []; statements = []; class = 0 }
+ended state = record { names = state.names; dimension = state.dimension; earlier = state.earlier ++ state.statements ∷ []; statements = []; class = 0 }
 
 abbrev pub module_checked : State → List Placed → Result State Refusal
 module_checked state statements = do

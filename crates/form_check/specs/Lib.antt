@@ -6,3 +6,4 @@ pub mod Refusal
 pub mod RightSide
 pub mod Sound
 pub mod Standing
+pub mod Walking

@@ -13,6 +13,10 @@ pub record Refusal : Type 0 where
 abbrev pub refused : {X : Type 0} → Cause → Spot → Result X Refusal
 refused cause spot = Err (record { cause = cause; spot = spot })
 
+-- the same as a function answers it
+abbrev pub error_of : Refusal → CheckError
+error_of r = Refused r.cause r.spot
+
 -- what comes after a step that isn't refused; the first refusal otherwise
 infixl 10 ◌>>=◌
 abbrev pub ◌>>=◌ : {A B : Type 0} → Result A Refusal → (A → Result B Refusal) → Result B Refusal

@@ -1,20 +1,20 @@
-ghost use Rattle.std.specs.Prelude.{◌≡◌, ◌+◌, ◌<◌, ◌≤◌, ◌^◌, ◌++◌, [], ◌∷◌, length, OnOk, IfOk, IfErr};
-ghost use Rattle.form_ast.specs.Lawful.{AreLawfulModules};
+ghost use Rattle.std.specs.Prelude.{◌≡◌, ◌+◌, ◌<◌, ◌≤◌, ◌^◌, ◌++◌, [], ◌∷◌, length, All, OnOk, IfOk, IfErr};
+ghost use Rattle.form_ast.specs.Lawful.{AreLawful, IsLawfulStatement, AreLawfulModules};
 ghost use Rattle.form_check.specs.Checker.{state_of, IsConsistent};
 ghost use Rattle.form_check.specs.Checking as checking;
 ghost use Rattle.form_check.specs.Checking.{definition, is_defined_again, module_checked, program, start, with_statement, most_names};
 ghost use Rattle.form_check.specs.Marks.{AreMarksOf};
 ghost use Rattle.form_check.specs.Refusal.{Gives};
 ghost use Rattle.form_check.specs.Sound.{IsSound};
-ghost use Rattle.form_names.specs.Names.{lookup};
+ghost use Rattle.form_names.specs.Names.{lookup, IsDimension};
 
-use crate::naming::{copy_of, declare, declare_symbols, selection_of};
+use crate::naming::{copy_of, declare, declare_indices, declare_names, dimension, selection_of};
 use crate::right_side::right_side;
 use crate::standing::Standing;
 use crate::{CheckError, Checked, Module, Program};
 use form_ast::{Expr, Placed, Spelled, Statement};
 use form_base::Cause;
-use form_names::{Kind, Names};
+use form_names::{Dimension, Kind, Names};
 use std::alloc::Global;
 use std::mem;
 
@@ -24,6 +24,7 @@ pub fn check(alloc: Global, modules: &[form_ast::Module]) -> Result<Program, Che
     ensures checked { Gives (λ p. p) result (program modules.now) }
     ensures sound { IfOk result IsSound }
 {
+    form_ast::laws::one_tree();
     let mut checker = Checker::new(alloc);
     for module in modules {
         checker.module(alloc, module)?;
@@ -35,6 +36,8 @@ pub fn check(alloc: Global, modules: &[form_ast::Module]) -> Result<Program, Che
 #[derive(Drop)]
 struct Checker {
     names: Names,
+    /// That of indices that are declared without one.
+    dimension: Dimension,
     standing: Standing,
     modules: Vec<Module>,
     /// Those of the module that is checked.
@@ -51,6 +54,7 @@ impl Checker {
     {
         Checker {
             names: Names::new(alloc),
+            dimension: Dimension::Number(4),
             standing: Standing::new(alloc),
             modules: Vec::new(alloc),
             statements: Vec::new(alloc),
@@ -60,6 +64,7 @@ impl Checker {
 
     fn module(&mut self, alloc: Global, written: &form_ast::Module) -> Result<(), CheckError>
         requires consistent { IsConsistent self.old }
+        requires lawful { All (λ placed. IsLawfulStatement placed.statement) written.now }
         requires room { self.old.standing.current + 1 < 2 ^ 64 }
         ensures checked { Gives (λ _. state_of self.new) result (module_checked (state_of self.old) written.now) }
         ensures consistent { OnOk result (IsConsistent self.new) }
@@ -76,7 +81,8 @@ impl Checker {
     }
 
     fn statement(&mut self, alloc: Global, placed: &Placed) -> Result<(), CheckError>
-        requires { IsConsistent self.old }
+        requires consistent { IsConsistent self.old }
+        requires lawful { IsLawfulStatement placed.now.statement }
         ensures checked { Gives (λ _. state_of self.new) result (checking.statement (state_of self.old) placed.now) }
         ensures consistent { OnOk result (IsConsistent self.new) }
         ensures current { OnOk result (self.new.standing.current ≡ self.old.standing.current) }
@@ -87,7 +93,17 @@ impl Checker {
         }
         self.class = class;
         match &placed.statement {
-            Statement::Symbols(list) => declare_symbols(alloc, &mut self.names, list.as_slice()),
+            Statement::Names(declared, list) => {
+                declare_names(alloc, &mut self.names, *declared, list.as_slice())
+            }
+            Statement::Indices(list) => {
+                declare_indices(alloc, &mut self.names, &self.dimension, list.as_slice())
+            }
+            Statement::Dimension(written) => {
+                self.dimension = dimension(alloc, &self.names, written)?;
+                Ok(())
+            }
+            Statement::Statistics => Ok(()),
             Statement::Drop(list) => {
                 let which = selection_of(alloc, &self.names, list.as_slice())?;
                 self.standing.drop_selected(&which)?;
@@ -107,7 +123,8 @@ impl Checker {
 
     /// A definition.
     fn define(&mut self, alloc: Global, spelled: &Spelled, right: &Expr) -> Result<(), CheckError>
-        requires { IsConsistent self.old }
+        requires consistent { IsConsistent self.old }
+        requires lawful { AreLawful right.now }
         ensures checked { Gives (λ _. state_of self.new) result (definition (state_of self.old) spelled.now right.now) }
         ensures consistent { OnOk result (IsConsistent self.new) }
         ensures current { OnOk result (self.new.standing.current ≡ self.old.standing.current) }
@@ -137,6 +154,7 @@ impl Checker {
     fn keep(&mut self, statement: Checked) -> Result<(), CheckError>
         requires marks { AreMarksOf self.old.standing self.old.modules.items (self.old.statements.items ++ statement ∷ []) }
         requires names { length self.old.names ≤ most_names }
+        requires dimension { IsDimension self.old.names self.old.dimension }
         ensures kept { OnOk result (state_of self.new ≡ with_statement (state_of self.old) statement) }
         ensures memory { IfErr result (λ e. e ≡ CheckError.Memory) }
         ensures consistent { OnOk result (IsConsistent self.new) }
@@ -152,7 +170,10 @@ fn class_of(statement: &Statement) -> u8
     ensures { result ≡ checking.class_of statement.now }
 {
     match statement {
-        Statement::Symbols(_) => 1,
+        Statement::Names(_, _)
+        | Statement::Indices(_)
+        | Statement::Dimension(_)
+        | Statement::Statistics => 1,
         Statement::Drop(_) | Statement::Skip(_) => 2,
         Statement::Local(_, _) => 3,
         Statement::Print(_) => 5,

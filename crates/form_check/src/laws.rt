@@ -11,4 +11,6 @@ ghost use Rattle.form_check.specs.Sound.{IsSound};
 pub fn checked_programs_are_sound()
     ensures { (modules : List (List Placed)) (checked : Program) →
         AreLawfulModules modules → program modules ≡ Ok checked → IsSound checked }
-{}
+{
+    form_ast::laws::one_tree();
+}

@@ -5,11 +5,15 @@
 mod checked;
 mod checker;
 mod error;
+mod kinds;
 pub mod laws;
 mod naming;
+mod powers;
 mod program;
+mod resolved;
 mod right_side;
 mod standing;
+mod walk;
 
 pub use checked::{Checked, IdList, Module, Selection};
 pub use checker::check;

@@ -1,16 +1,23 @@
 //! Names where they are declared, and where expressions are meant.
-ghost use Rattle.std.specs.Prelude.{◌≡◌, ◌≤◌, length, IfOk, OnOk};
-ghost use Rattle.form_check.specs.Checking.{declared, symbol, expression, expressions, selection, most_names};
+ghost use Rattle.std.specs.Prelude.{◌≡◌, ◌<◌, ◌≤◌, List, Some, length, IfOk, OnOk};
+ghost use Rattle.form_check.specs.Checker.{KeepsDimensions};
+ghost use Rattle.form_check.specs.Checking.{declared, named, kind_declared, dimension as dimension_written, dimension_or as dimension_or_of, index as index_declared, expression, expressions, selection, most_names};
 ghost use Rattle.form_check.specs.Refusal.{Gives, each};
+ghost use Rattle.form_base.specs.declared.cause.Cause.TheVariants as causes;
+ghost use Rattle.form_names.specs.Names.{Entry, lookup, IsDimension, IsKind};
 
+use crate::kinds::{found, wrong_kind};
 use crate::{CheckError, IdList, Selection};
-use form_ast::Spelled;
+use form_ast::{Declared, Spelled, SpelledIndex};
 use form_base::{Cause, Id, Name};
-use form_names::{DeclareError, Kind, Names};
+use form_names::{DeclareError, Dimension, Kind, Names};
 use std::alloc::{AllocError, Global};
 
 /// How many names may be declared.
 const MOST_NAMES: u32 = 16_777_216;
+
+/// The largest dimension that is a number.
+const LARGEST_DIMENSION: u32 = 1_000;
 
 /// A copy of a name, for a cause or to be declared.
 pub fn copy_of(alloc: Global, spelled: &Spelled) -> Result<Name, AllocError>
@@ -20,15 +27,18 @@ pub fn copy_of(alloc: Global, spelled: &Spelled) -> Result<Name, AllocError>
 }
 
 /// Declares a name.
+#[tactic(auto, using(crate::proofs::Growing::declare_keeps))]
 pub fn declare(
     alloc: Global,
     names: &mut Names,
     spelled: &Spelled,
     kind: Kind,
 ) -> Result<Id, CheckError>
-    requires { length names.old ≤ most_names }
+    requires room { length names.old ≤ most_names }
+    requires lawful { IsKind names.old kind }
     ensures declared { Gives (λ id. (id, names.new)) result (declared names.old spelled.now kind) }
     ensures room { OnOk result (length names.new ≤ most_names) }
+    ensures keeps { OnOk result (KeepsDimensions names.old names.new) }
 {
     if names.len() == MOST_NAMES && names.lookup(spelled.name.as_str()).is_none() {
         return Err(CheckError::Refused(Cause::NumberRange, spelled.spot));
@@ -43,14 +53,150 @@ pub fn declare(
     }
 }
 
-/// Declares symbols.
-pub fn declare_symbols(alloc: Global, names: &mut Names, list: &[Spelled]) -> Result<(), CheckError>
+/// Declares names that are no indices.
+pub fn declare_names(
+    alloc: Global,
+    names: &mut Names,
+    declared: Declared,
+    list: &[Spelled],
+) -> Result<(), CheckError>
     requires { length names.old ≤ most_names }
-    ensures declared { Gives (λ _. names.new) result (each symbol names.old list.now) }
+    ensures declared { Gives (λ _. names.new) result (each (named (kind_declared declared)) names.old list.now) }
     ensures room { OnOk result (length names.new ≤ most_names) }
+    ensures keeps { OnOk result (KeepsDimensions names.old names.new) }
 {
     for spelled in list {
-        declare(alloc, names, spelled, Kind::Symbol)?;
+        declare(alloc, names, spelled, kind_of(declared))?;
+    }
+    Ok(())
+}
+
+fn kind_of(declared: Declared) -> Kind
+    ensures kind { result ≡ kind_declared declared }
+    ensures lawful { (names : List Entry) → IsKind names result }
+{
+    match declared {
+        Declared::Symbols => Kind::Symbol,
+        Declared::Vectors => Kind::Vector,
+        Declared::Functions => Kind::Function,
+        Declared::CFunctions => Kind::CommutingFunction,
+    }
+}
+
+/// A written dimension.
+pub fn dimension(
+    alloc: Global,
+    names: &Names,
+    written: &form_ast::Dimension,
+) -> Result<Dimension, CheckError>
+    ensures dimension { Gives (λ d. d) result (dimension_written names.now written.now) }
+    ensures lawful { IfOk result (IsDimension names.now) }
+{
+    match written {
+        form_ast::Dimension::Number(number) => {
+            if number.value > u128::from(LARGEST_DIMENSION) {
+                return Err(CheckError::Refused(Cause::NumberRange, number.spot));
+            }
+            Ok(Dimension::Number(number.value as u32))
+        }
+        form_ast::Dimension::Name(spelled) => {
+            let found = found(alloc, names, spelled)?;
+            match found.kind {
+                Kind::Symbol => Ok(Dimension::Symbol(found.id)),
+                _ => Err(wrong_kind(alloc, spelled)?),
+            }
+        }
+    }
+}
+
+/// The dimension of an index that is declared, where this one holds for those without.
+fn dimension_or(
+    alloc: Global,
+    names: &Names,
+    default: &Dimension,
+    written: &Option<form_ast::Dimension>,
+) -> Result<Dimension, CheckError>
+    requires { IsDimension names.now default.now }
+    ensures dimension { Gives (λ d. d) result (dimension_or_of default.now names.now written.now) }
+    ensures lawful { IfOk result (IsDimension names.now) }
+{
+    match written {
+        Some(written) => dimension(alloc, names, written),
+        None => Ok(*default),
+    }
+}
+
+/// A refusal of a name that stands otherwise.
+fn redeclared(alloc: Global, spelled: &Spelled) -> Result<CheckError, AllocError>
+    ensures { IfOk result (λ e. e ≡ CheckError.Refused (causes.Redeclared spelled.now.name) spelled.now.spot) }
+{
+    let name = copy_of(alloc, spelled)?;
+    Ok(CheckError::Refused(Cause::Redeclared(name), spelled.spot))
+}
+
+/// Declares an index whose name stands already.
+fn declare_again(
+    alloc: Global,
+    names: &Names,
+    default: &Dimension,
+    index: &SpelledIndex,
+    id: Id,
+) -> Result<(), CheckError>
+    requires stands { lookup names.now index.now.name.name ≡ Some id }
+    requires within { id < length names.now }
+    requires lawful { IsDimension names.now default.now }
+    ensures { Gives (λ _. names.now) result (index_declared default.now names.now index.now) }
+{
+    let dimension = match dimension_or(alloc, names, default, &index.dimension) {
+        Ok(dimension) => dimension,
+        Err(CheckError::Refused(_, _)) => return Err(redeclared(alloc, &index.name)?),
+        Err(CheckError::Memory) => return Err(CheckError::Memory),
+    };
+    if names.kind(id) != Kind::Index(dimension) {
+        return Err(redeclared(alloc, &index.name)?);
+    }
+    Ok(())
+}
+
+/// Declares an index.
+fn declare_index(
+    alloc: Global,
+    names: &mut Names,
+    default: &Dimension,
+    index: &SpelledIndex,
+) -> Result<(), CheckError>
+    requires room { length names.old ≤ most_names }
+    requires lawful { IsDimension names.old default.now }
+    ensures declared { Gives (λ _. names.new) result (index_declared default.now names.old index.now) }
+    ensures room { OnOk result (length names.new ≤ most_names) }
+    ensures keeps { OnOk result (KeepsDimensions names.old names.new) }
+{
+    if let Some(id) = names.lookup(index.name.name.as_str()) {
+        return declare_again(alloc, names, default, index, id);
+    }
+    if names.len() == MOST_NAMES {
+        return Err(CheckError::Refused(Cause::NumberRange, index.name.spot));
+    }
+    let dimension = dimension_or(alloc, names, default, &index.dimension)?;
+    declare(alloc, names, &index.name, Kind::Index(dimension))?;
+    Ok(())
+}
+
+/// Declares indices.
+pub fn declare_indices(
+    alloc: Global,
+    names: &mut Names,
+    default: &Dimension,
+    list: &[SpelledIndex],
+) -> Result<(), CheckError>
+    requires room { length names.old ≤ most_names }
+    requires lawful { IsDimension names.old default.now }
+    ensures declared { Gives (λ _. names.new) result (each (index_declared default.now) names.old list.now) }
+    ensures room { OnOk result (length names.new ≤ most_names) }
+    ensures keeps { OnOk result (KeepsDimensions names.old names.new) }
+{
+    for index in list {
+        declare_index(alloc, names, default, index)?;
     }
     Ok(())
 }
@@ -59,14 +205,11 @@ pub fn declare_symbols(alloc: Global, names: &mut Names, list: &[Spelled]) -> Re
 fn expression_of(alloc: Global, names: &Names, spelled: &Spelled) -> Result<Id, CheckError>
     ensures { Gives (λ id. id) result (expression names.now spelled.now) }
 {
-    let cause = match names.lookup(spelled.name.as_str()) {
-        Some(id) => match names.kind(id) {
-            Kind::Expression => return Ok(id),
-            Kind::Symbol => Cause::WrongKind(copy_of(alloc, spelled)?),
-        },
-        None => Cause::Undeclared(copy_of(alloc, spelled)?),
-    };
-    Err(CheckError::Refused(cause, spelled.spot))
+    let found = found(alloc, names, spelled)?;
+    match found.kind {
+        Kind::Expression => Ok(found.id),
+        _ => Err(wrong_kind(alloc, spelled)?),
+    }
 }
 
 /// The `Id`s of expressions.

@@ -3,7 +3,7 @@ ghost use Rattle.std.specs.Prelude.{◌≡◌, IfOk};
 ghost use Rattle.form_ast.specs.Lawful.{AreLawful, IsLawfulStatement, AreLawfulModules};
 
 use crate::{CheckError, check};
-use form_ast::{Expr, Link, Module, NameList, Piece, Placed, Spelled, Statement};
+use form_ast::{Declared, Expr, Link, Module, NameList, Named, Piece, Placed, Spelled, Statement};
 use form_base::{Name, Spot};
 use std::alloc::{AllocError, Global};
 use std::test::Fail;
@@ -22,12 +22,16 @@ fn list_of(alloc: Global, name: &str, line: u32) -> Result<NameList, AllocError>
     Ok(NameList::from_vec(names))
 }
 
-/// The right side `x`.
-fn right_side(alloc: Global) -> Result<Expr, AllocError>
+/// The right side `x(x)`, where this is the name before the parentheses.
+fn right_side(alloc: Global, name: &str) -> Result<Expr, AllocError>
     ensures { IfOk result AreLawful }
 {
     let mut pieces = Vec::new(alloc);
-    pieces.push(Piece::Name(Link::First, spelled(alloc, "x", 2)?, None))?;
+    let before = Named::Declared(spelled(alloc, name, 2)?);
+    let inner = Named::Declared(spelled(alloc, "x", 2)?);
+    pieces.push(Piece::Call(Link::First, before))?;
+    pieces.push(Piece::Name(Link::First, inner, None))?;
+    pieces.push(Piece::EndOfCall(None))?;
     Ok(Expr::from_vec(pieces))
 }
 
@@ -40,15 +44,26 @@ fn placed(line: u32, statement: Statement) -> Placed
     }
 }
 
-/// `Symbols x;`, `Local F = x;` and a last statement, each on a line of its own.
-fn modules(alloc: Global, last: Statement) -> Result<Vec<Module>, AllocError>
+fn all_printed(alloc: Global) -> Statement
+    ensures { IsLawfulStatement result }
+{
+    Statement::Print(NameList::from_vec(Vec::new(alloc)))
+}
+
+/// `Vectors x;` or another declaration, `Local F = NAME(x);` and a last statement, each on a line of its own.
+fn modules(
+    alloc: Global,
+    declared: Declared,
+    name: &str,
+    last: Statement,
+) -> Result<Vec<Module>, AllocError>
     requires { IsLawfulStatement last }
     ensures { IfOk result (λ list. AreLawfulModules list.items) }
 {
     let mut statements = Vec::new(alloc);
-    let symbols = Statement::Symbols(list_of(alloc, "x", 1)?);
-    let local = Statement::Local(spelled(alloc, "F", 2)?, right_side(alloc)?);
-    statements.push(placed(1, symbols))?;
+    let first = Statement::Names(declared, list_of(alloc, "x", 1)?);
+    let local = Statement::Local(spelled(alloc, "F", 2)?, right_side(alloc, name)?);
+    statements.push(placed(1, first))?;
     statements.push(placed(2, local))?;
     statements.push(placed(3, last))?;
     let mut modules = Vec::new(alloc);
@@ -74,9 +89,18 @@ fn refused_at(alloc: Global, modules: &[Module]) -> Result<u32, AllocError>
 #[test]
 fn statements_are_checked_in_order(rt: HostRuntime) -> Result<(), Fail> {
     let alloc = rt.alloc();
-    let all = modules(alloc, Statement::Print(NameList::from_vec(Vec::new(alloc))))?;
+    let all = modules(alloc, Declared::Vectors, "x", all_printed(alloc))?;
     assert!(rt; refused_at(alloc, &all)? == 0);
-    let wrong = modules(alloc, Statement::Print(list_of(alloc, "x", 3)?))?;
+    let all = modules(alloc, Declared::CFunctions, "x", all_printed(alloc))?;
+    assert!(rt; refused_at(alloc, &all)? == 0);
+    let wrong = modules(alloc, Declared::Symbols, "x", all_printed(alloc))?;
+    assert!(rt; refused_at(alloc, &wrong)? == 2);
+    let wrong = modules(
+        alloc,
+        Declared::Functions,
+        "x",
+        Statement::Print(list_of(alloc, "x", 3)?),
+    )?;
     assert!(rt; refused_at(alloc, &wrong)? == 3);
     Ok(())
 }

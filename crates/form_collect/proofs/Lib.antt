@@ -1,3 +1,4 @@
+pub mod Collected
 pub mod Lists
 pub mod Members
 pub mod Sorted

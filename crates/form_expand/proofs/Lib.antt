@@ -1,4 +1,5 @@
 pub mod Behind
+pub mod Called
 pub mod Keeping
 pub mod Levels
 pub mod Listings

@@ -6,7 +6,7 @@ use Rattle.form_expand.specs.declared.literal.Literal.{Literal}
 use Rattle.form_expand.specs.declared.stored.Stored.{Stored}
 use Rattle.form_expand.specs.Listing.{Listing, nothing, single, before, limited, followed, signed, with_sign}
 use Rattle.form_expand.specs.Literals.{IsLiteral}
-use Rattle.form_expand.specs.Reading.{fresh, read_from, list_of_pieces}
+use Rattle.form_expand.specs.Reading.{in_sum, fresh, read_from, list_of_pieces}
 use Rattle.form_expand.specs.Walks.{all_of}
 use Rattle.form_expand.proofs.Behind.{pieces_of_none, read_behind}
 use Rattle.form_expand.proofs.Listings.{followed_nothing, followed_last, followed_before, limited_nothing, limited_within, limited_followed_last, taken_on}
@@ -17,8 +17,8 @@ module _ (max : ℕ) (all : List Stored) where
   pub pieces_limited : (pieces : List Piece) → limited max (list_of_pieces max all pieces) ≡ list_of_pieces max all pieces
   pieces_limited pieces =
       let list = list_of_pieces max all pieces in
-      sym (sym (ap (λ l. read_from all (record { top = record { max = max; sum = l; is_minus = false; factors = [] }; outer = [] }) pieces) (ap (limited max) (followed_nothing nothing) ∙ limited_nothing max))
-      ∙ read_behind all nothing (fresh max) [] pieces
+      sym (sym (ap (λ l. read_from all (record { top = in_sum (record { max = max; sum = l; is_minus = false; factors = [] }); outer = [] }) pieces) (ap (limited max) (followed_nothing nothing) ∙ limited_nothing max))
+      ∙ read_behind all nothing (in_sum (fresh max)) [] pieces tt
       ∙ ap (limited max) (followed_nothing list))
 
   pub sum_begun : (pieces : List Piece) (terms : List Monomial) → terms ≡ []

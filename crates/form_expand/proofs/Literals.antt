@@ -1,6 +1,6 @@
 -- Products of numbers and symbols, read into one term.
 use Rattle.std.proofs.Common.{◌≡◌, ℕ, zero, suc, ◌+◌, ◌<◌, ◌≤◌, Bool, true, false, List, [], ◌∷◌, ◌++◌, length, drop, refl, sym, ap, subst, ◌∙◌, arith}
-use Rattle.std.specs.Prelude.{None, Result, Ok}
+use Rattle.std.specs.Prelude.{Option, Some, None, Result, Ok}
 use Rattle.std.proofs.lemmas.List.{length-append, drop_all}
 use Rattle.form_base.specs.declared.cause.Cause.{Cause}
 use Rattle.form_base.specs.declared.cause.Cause.TheVariants.{ExpandLimit}
@@ -18,23 +18,23 @@ use Rattle.form_expand.specs.Listing.{Listing, nothing, single, before_by, limit
 use Rattle.form_expand.specs.Literals.{IsLiteral, IsTaken, IsTimes, sign_behind}
 use Rattle.form_expand.specs.Numbers.{number_list, symbol_list}
 use Rattle.form_expand.specs.Readers.{EndsProduct, in_product}
-use Rattle.form_expand.specs.Reading.{Part, closed, linked, with_factor, with_piece, fed, read_from, list_of_pieces, begins, begins_product}
+use Rattle.form_expand.specs.Reading.{Part, in_sum, closed, linked, with_factor, with_piece, fed, read_from, list_of_pieces, begins, begins_product}
 use Rattle.form_expand.proofs.Behind.{read_ends}
 use Rattle.form_expand.proofs.Listings.{limited_within, limited_none, limited_refusal, limited_nothing, limited_again, followed_nothing, followed_last, times_before, times_end, pairs_before, pairs_nothing, pairs_refusal}
 use Rattle.form_expand.proofs.Products.{row_push}
 
-same_ok : (a b : Monomial) (r : Result Monomial Cause) → r ≡ Ok a → r ≡ Ok b → a ≡ b
+same_ok : (a b : Monomial) (r : Result (Option Monomial) Cause) → r ≡ Ok (Some a) → r ≡ Ok (Some b) → a ≡ b
 same_ok a b r e f = cc
 
 -- two lists of one term are paired
-one_times_one : (m n made : Monomial) → product_of m n ≡ Ok made → pairs (single m) (single n) ≡ single made
+one_times_one : (m n made : Monomial) → product_of m n ≡ Ok (Some made) → pairs (single m) (single n) ≡ single made
 one_times_one m n made e =
     pairs_before m nothing (single n)
     ∙ ap (λ l. followed l (pairs nothing (single n))) (times_before m n nothing ∙ ap (before_by (product_of m n)) (times_end m None) ∙ ap (λ r. before_by r nothing) e)
     ∙ ap (followed (single made)) (pairs_nothing (single n))
     ∙ followed_last (single made)
 
-pub pair_of_ones : (max : ℕ) (m n made : Monomial) → product_of m n ≡ Ok made → limited max (pairs (limited max (single m)) (limited max (single n))) ≡ limited max (single made)
+pub pair_of_ones : (max : ℕ) (m n made : Monomial) → product_of m n ≡ Ok (Some made) → limited max (pairs (limited max (single m)) (limited max (single n))) ≡ limited max (single made)
 pair_of_ones zero m n made e =
     ap (λ l. limited 0 (pairs l (limited 0 (single n)))) (limited_none m nothing)
     ∙ ap (limited 0) (pairs_refusal ExpandLimit (limited 0 (single n)))
@@ -69,7 +69,7 @@ module _ (max : ℕ) (all : List Stored) where
   -- this is read of the pieces
   pub record IsReadTo (ps : List Piece) (l : Literal) (read : ℕ) : Type 0 where
     pub factors : List Listing
-    pub list : list_of_pieces max all ps ≡ read_from all (record { top = part l.is_minus factors; outer = [] }) (drop read ps)
+    pub list : list_of_pieces max all ps ≡ read_from all (record { top = in_sum (part l.is_minus factors); outer = [] }) (drop read ps)
     pub one : IsOne max factors l.term
     pub first : read ≡ 0 → factors ≡ []
     pub some : 0 < read → 0 < length factors
@@ -88,14 +88,14 @@ module _ (max : ℕ) (all : List Stored) where
 
   -- a further factor is read
   factor_read : (ps rest : List Piece) (link : Link) (l : Listing) (old new : Literal) (read : ℕ) (h : IsReadTo ps old read)
-      → read_from all (record { top = part old.is_minus h.factors; outer = [] }) (drop read ps) ≡ read_from all (with_piece link l 1 (record { top = part old.is_minus h.factors; outer = [] })) (drop (read + 1) ps)
+      → read_from all (record { top = in_sum (part old.is_minus h.factors); outer = [] }) (drop read ps) ≡ read_from all (with_piece link l 1 (record { top = in_sum (part old.is_minus h.factors); outer = [] })) (drop (read + 1) ps)
       → (begins link ≡ true → h.factors ≡ []) → new.is_minus ≡ sign_behind old.is_minus link → IsTimes l old.term new.term → IsReadTo ps new (read + 1)
   unfolding powers
   factor_read ps rest link l old new read h on starts sign t =
       let before : linked link (part old.is_minus h.factors) ≡ part new.is_minus h.factors = linked_is link old.is_minus h.factors starts ∙ ap (λ b. part b h.factors) (sym sign) in
       record {
         factors = h.factors ++ limited max l ∷ [];
-        list = h.list ∙ on ∙ ap (λ (p : Part). read_from all (record { top = with_factor l 1 p; outer = [] }) (drop (read + 1) ps)) before;
+        list = h.list ∙ on ∙ ap (λ (p : Part). read_from all (record { top = in_sum (with_factor l 1 p); outer = [] }) (drop (read + 1) ps)) before;
         one = one_more max h.factors l old.term new.term h.one t;
         first = λ e. absurd (omega arith);
         some = λ e. let n = length-append h.factors (limited max l ∷ []) in omega arith;
@@ -109,12 +109,22 @@ module _ (max : ℕ) (all : List Stored) where
       → IsTaken piece old new → IsReadTo ps old read → IsReadTo ps new (read + 1)
   unfolding read_from fed
   read_taken ps (pieces.Number link value power) old new read rest on t h =
-      factor_read ps (drop (read + 1) ps) link (number_list value power) old new read h (ap (read_from all (record { top = part old.is_minus h.factors; outer = [] })) rest)
+      factor_read ps (drop (read + 1) ps) link (number_list value power) old new read h (ap (read_from all (record { top = in_sum (part old.is_minus h.factors); outer = [] })) rest)
       (starts_first read (begins link) h.factors h.first on) t.0 t.1
   read_taken ps (pieces.Symbol link symbol power) old new read rest on t h =
-      factor_read ps (drop (read + 1) ps) link (symbol_list symbol power) old new read h (ap (read_from all (record { top = part old.is_minus h.factors; outer = [] })) rest)
+      factor_read ps (drop (read + 1) ps) link (symbol_list symbol power) old new read h (ap (read_from all (record { top = in_sum (part old.is_minus h.factors); outer = [] })) rest)
       (starts_first read (begins link) h.factors h.first on) t.0 t.1
   read_taken ps (pieces.Stored link expression power) old new read rest on t h = absurd t
+  read_taken ps (pieces.Imaginary link power) old new read rest on t h = absurd t
+  read_taken ps (pieces.Dot link p q power) old new read rest on t h = absurd t
+  read_taken ps (pieces.Component link c power) old new read rest on t h = absurd t
+  read_taken ps (pieces.Delta link i j power) old new read rest on t h = absurd t
+  read_taken ps (pieces.Function link f is_commuting) old new read rest on t h = absurd t
+  read_taken ps (pieces.EndOfFunction power) old new read rest on t h = absurd t
+  read_taken ps (pieces.Index i) old new read rest on t h = absurd t
+  read_taken ps (pieces.Vector v) old new read rest on t h = absurd t
+  read_taken ps pieces.Argument old new read rest on t h = absurd t
+  read_taken ps pieces.EndOfArgument old new read rest on t h = absurd t
   read_taken ps (pieces.Open link) old new read rest on t h = absurd t
   read_taken ps (pieces.Close power) old new read rest on t h = absurd t
 

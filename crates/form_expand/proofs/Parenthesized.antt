@@ -11,15 +11,17 @@ use Rattle.form_expand.specs.declared.stored.Stored.{Stored}
 use Rattle.form_expand.specs.Closings.{closing_at, deep_behind, power_at_end}
 use Rattle.form_expand.specs.Factors.{factor_whole}
 use Rattle.form_expand.specs.Listing.{Listing}
-use Rattle.form_expand.specs.Reading.{Part, Reading, fresh, closed, linked, with_factor, fed, outermost, read_from, list_of_pieces, begins, begins_product}
+use Rattle.form_expand.specs.Reading.{Part, Frame, in_sum, in_function, Reading, fresh, calling, list_of_frame, limit_of, linked, linked_frame, with_factor, factor_into, argument_into, begun_function, ended, fed, outermost, read_from, list_of_pieces, begins_product}
+use Rattle.form_term.specs.Term.{index, vector}
 use Rattle.form_expand.specs.Numbers.{number_list, symbol_list}
+use Rattle.form_expand.specs.Singles.{imaginary_list, dot_list, component_list, delta_list}
 use Rattle.form_expand.specs.Stored.{terms_of}
 use Rattle.form_expand.specs.Readers.{EndsProduct, is_minus_link, is_minus_piece, joined, product_part, in_product}
 use Rattle.form_expand.proofs.Behind.{closed_fresh}
 
-outermost_last : (top : Part) (outer : List Part) (p : Part) → outermost top (outer ++ p ∷ []) ≡ p
-outermost_last top [] p = refl
-outermost_last top (q ∷ outer) p = outermost_last q outer p
+outermost_last : (top : Frame) (outer : List Frame) (f : Frame) → outermost top (outer ++ f ∷ []) ≡ f
+outermost_last top [] f = refl
+outermost_last top (g ∷ outer) f = outermost_last g outer f
 
 some_pair : (p q : ℕ × ℕ) → Some p ≡ Some q → (p.0 ≡ q.0) × (p.1 ≡ q.1)
 some_pair p q e = (ap first e, ap second e)
@@ -32,28 +34,39 @@ some_pair p q e = (ap first e, ap second e)
     second None = 0
     second (Some q) = q.1
 
-module _ (all : List Stored) (p : Part) where
+module _ (all : List Stored) (p : Frame) where
   -- it isn't ended
-  pub read_unended : (place : ℕ) (top : Part) (outer : List Part) (ps : List Piece) → closing_at place (length outer) ps ≡ None
-      → read_from all (record { top = top; outer = outer ++ p ∷ [] }) ps ≡ closed p
+  pub read_unended : (place : ℕ) (top : Frame) (outer : List Frame) (ps : List Piece) → closing_at place (length outer) ps ≡ None
+      → read_from all (record { top = top; outer = outer ++ p ∷ [] }) ps ≡ list_of_frame p
   unfolding read_from fed closing_at
-  read_unended place top outer [] e = ap closed (outermost_last top outer p)
-  read_unended place top outer (pieces.Number link value power ∷ ps) e = read_unended (place + 1) (with_factor (number_list value power) 1 (linked link top)) outer ps e
-  read_unended place top outer (pieces.Symbol link symbol power ∷ ps) e = read_unended (place + 1) (with_factor (symbol_list symbol power) 1 (linked link top)) outer ps e
-  read_unended place top outer (pieces.Stored link expression power ∷ ps) e =
-      read_unended (place + 1) (with_factor (record { terms = terms_of all expression; end = None }) power (linked link top)) outer ps e
-  read_unended place top outer (pieces.Open link ∷ ps) e = read_unended (place + 1) (fresh top.max) (linked link top ∷ outer) ps e
-  read_unended place top [] (pieces.Close power ∷ ps) e = cc
-  read_unended place top (q ∷ outer) (pieces.Close power ∷ ps) e = read_unended (place + 1) (with_factor (closed top) power q) outer ps e
+  read_unended place top outer [] e = ap list_of_frame (outermost_last top outer p)
+  read_unended place top outer ((pieces.Number link value power) ∷ ps) e = read_unended (place + 1) (factor_into link (number_list value power) 1 top) outer ps e
+  read_unended place top outer ((pieces.Symbol link symbol power) ∷ ps) e = read_unended (place + 1) (factor_into link (symbol_list symbol power) 1 top) outer ps e
+  read_unended place top outer ((pieces.Stored link expression power) ∷ ps) e = read_unended (place + 1) (factor_into link (record { terms = terms_of all expression; end = None }) power top) outer ps e
+  read_unended place top outer ((pieces.Imaginary link power) ∷ ps) e = read_unended (place + 1) (factor_into link (imaginary_list) power top) outer ps e
+  read_unended place top outer ((pieces.Dot link p q power) ∷ ps) e = read_unended (place + 1) (factor_into link (dot_list p q power) 1 top) outer ps e
+  read_unended place top outer ((pieces.Component link c power) ∷ ps) e = read_unended (place + 1) (factor_into link (component_list c) power top) outer ps e
+  read_unended place top outer ((pieces.Delta link i j power) ∷ ps) e = read_unended (place + 1) (factor_into link (delta_list i j) power top) outer ps e
+  read_unended place top outer ((pieces.Function link f is_commuting) ∷ ps) e = read_unended (place + 1) (begun_function f is_commuting top) (linked_frame link top ∷ outer) ps e
+  read_unended place top [] ((pieces.EndOfFunction power) ∷ ps) e = cc
+  read_unended place top (g ∷ outer) ((pieces.EndOfFunction power) ∷ ps) e = read_unended (place + 1) (ended (list_of_frame top) power g) outer ps e
+  read_unended place top outer ((pieces.Index i) ∷ ps) e = read_unended (place + 1) (argument_into (index i) top) outer ps e
+  read_unended place top outer ((pieces.Vector v) ∷ ps) e = read_unended (place + 1) (argument_into (vector v) top) outer ps e
+  read_unended place top outer (pieces.Argument ∷ ps) e = read_unended (place + 1) (in_sum (fresh (limit_of top))) (linked_frame links.Times top ∷ outer) ps e
+  read_unended place top [] (pieces.EndOfArgument ∷ ps) e = cc
+  read_unended place top (g ∷ outer) (pieces.EndOfArgument ∷ ps) e = read_unended (place + 1) (ended (list_of_frame top) 1 g) outer ps e
+  read_unended place top outer ((pieces.Open link) ∷ ps) e = read_unended (place + 1) (in_sum (fresh (limit_of top))) (linked_frame link top ∷ outer) ps e
+  read_unended place top [] ((pieces.Close power) ∷ ps) e = cc
+  read_unended place top (g ∷ outer) ((pieces.Close power) ∷ ps) e = read_unended (place + 1) (ended (list_of_frame top) power g) outer ps e
 
-  -- what is read of the outermost sum where it is ended at this place
-  pub record IsEnded (place : ℕ) (top : Part) (outer : List Part) (ps : List Piece) (at power : ℕ) : Type 0 where
+  -- what is read of the outermost frame where it is ended at this place
+  pub record IsEnded (place : ℕ) (top : Frame) (outer : List Frame) (ps : List Piece) (at power : ℕ) : Type 0 where
     pub before : place ≤ at
     pub within : at - place < length ps
     pub read : read_from all (record { top = top; outer = outer ++ p ∷ [] }) ps
-        ≡ read_from all (record { top = with_factor (read_from all (record { top = top; outer = outer }) (take (at - place) ps)) power p; outer = [] }) (drop (at - place + 1) ps)
+        ≡ read_from all (record { top = ended (read_from all (record { top = top; outer = outer }) (take (at - place) ps)) power p; outer = [] }) (drop (at - place + 1) ps)
 
-  ended_on : (place : ℕ) (top then : Part) (outer around : List Part) (piece : Piece) (ps : List Piece) (at power : ℕ)
+  ended_on : (place : ℕ) (top then : Frame) (outer around : List Frame) (piece : Piece) (ps : List Piece) (at power : ℕ)
       → fed all (record { top = top; outer = outer ++ p ∷ [] }) piece ≡ record { top = then; outer = around ++ p ∷ [] }
       → fed all (record { top = top; outer = outer }) piece ≡ record { top = then; outer = around }
       → IsEnded (place + 1) then around ps at power → IsEnded place top outer (piece ∷ ps) at power
@@ -67,36 +80,56 @@ module _ (all : List Stored) (p : Part) where
         read =
             rw (e, n)
             (ap (λ (r : Reading). read_from all r ps) f ∙ h.read
-            ∙ ap (λ (r : Reading). read_from all (record { top = with_factor (read_from all r (take (at - (place + 1)) ps)) power p; outer = [] }) (drop (at - (place + 1) + 1) ps)) (sym g));
+            ∙ ap (λ (r : Reading). read_from all (record { top = ended (read_from all r (take (at - (place + 1)) ps)) power p; outer = [] }) (drop (at - (place + 1) + 1) ps)) (sym g));
       }
 
-  ended_here : (place : ℕ) (top : Part) (n : ℕ) (ps : List Piece) (at power : ℕ) → (place ≡ at) × (n ≡ power) → IsEnded place top [] (pieces.Close n ∷ ps) at power
-  unfolding read_from fed
-  ended_here place top n ps at power pair =
+  ended_here : (place : ℕ) (top : Frame) (n : ℕ) (piece : Piece) (ps : List Piece) (at power : ℕ)
+      → fed all (record { top = top; outer = p ∷ [] }) piece ≡ record { top = ended (list_of_frame top) n p; outer = [] } → (place ≡ at) × (n ≡ power) → IsEnded place top [] (piece ∷ ps) at power
+  unfolding read_from
+  ended_here place top n piece ps at power f pair =
       let here : at - place ≡ 0 = omega (arith, pair.0) in
       record {
         before = omega (arith, pair.0);
         within = omega (arith, pair.0);
-        read = rw (here, ← pair.1) refl;
+        read = rw (here, ← pair.1) (ap (λ (r : Reading). read_from all r ps) f);
       }
 
-  pub read_ended : (place : ℕ) (top : Part) (outer : List Part) (ps : List Piece) (at power : ℕ) → closing_at place (length outer) ps ≡ Some (at, power) → IsEnded place top outer ps at power
+  pub read_ended : (place : ℕ) (top : Frame) (outer : List Frame) (ps : List Piece) (at power : ℕ) → closing_at place (length outer) ps ≡ Some (at, power) → IsEnded place top outer ps at power
   unfolding fed closing_at
   read_ended place top outer [] at power e = cc
-  read_ended place top outer (pieces.Number link value n ∷ ps) at power e =
-      let then = with_factor (number_list value n) 1 (linked link top) in
-      ended_on place top then outer outer (pieces.Number link value n) ps at power refl refl (read_ended (place + 1) then outer ps at power e)
-  read_ended place top outer (pieces.Symbol link symbol n ∷ ps) at power e =
-      let then = with_factor (symbol_list symbol n) 1 (linked link top) in
-      ended_on place top then outer outer (pieces.Symbol link symbol n) ps at power refl refl (read_ended (place + 1) then outer ps at power e)
-  read_ended place top outer (pieces.Stored link expression n ∷ ps) at power e =
-      let then = with_factor (record { terms = terms_of all expression; end = None }) n (linked link top) in
-      ended_on place top then outer outer (pieces.Stored link expression n) ps at power refl refl (read_ended (place + 1) then outer ps at power e)
-  read_ended place top outer (pieces.Open link ∷ ps) at power e =
-      ended_on place top (fresh top.max) outer (linked link top ∷ outer) (pieces.Open link) ps at power refl refl (read_ended (place + 1) (fresh top.max) (linked link top ∷ outer) ps at power e)
-  read_ended place top [] (pieces.Close n ∷ ps) at power e = ended_here place top n ps at power (some_pair (place, n) (at, power) e)
-  read_ended place top (q ∷ outer) (pieces.Close n ∷ ps) at power e =
-      ended_on place top (with_factor (closed top) n q) (q ∷ outer) outer (pieces.Close n) ps at power refl refl (read_ended (place + 1) (with_factor (closed top) n q) outer ps at power e)
+  read_ended place top outer ((pieces.Number link value n) ∷ ps) at power e =
+      ended_on place top (factor_into link (number_list value n) 1 top) outer outer (pieces.Number link value n) ps at power refl refl (read_ended (place + 1) (factor_into link (number_list value n) 1 top) outer ps at power e)
+  read_ended place top outer ((pieces.Symbol link symbol n) ∷ ps) at power e =
+      ended_on place top (factor_into link (symbol_list symbol n) 1 top) outer outer (pieces.Symbol link symbol n) ps at power refl refl (read_ended (place + 1) (factor_into link (symbol_list symbol n) 1 top) outer ps at power e)
+  read_ended place top outer ((pieces.Stored link expression n) ∷ ps) at power e =
+      ended_on place top (factor_into link (record { terms = terms_of all expression; end = None }) n top) outer outer (pieces.Stored link expression n) ps at power refl refl (read_ended (place + 1) (factor_into link (record { terms = terms_of all expression; end = None }) n top) outer ps at power e)
+  read_ended place top outer ((pieces.Imaginary link n) ∷ ps) at power e =
+      ended_on place top (factor_into link (imaginary_list) n top) outer outer (pieces.Imaginary link n) ps at power refl refl (read_ended (place + 1) (factor_into link (imaginary_list) n top) outer ps at power e)
+  read_ended place top outer ((pieces.Dot link p q n) ∷ ps) at power e =
+      ended_on place top (factor_into link (dot_list p q n) 1 top) outer outer (pieces.Dot link p q n) ps at power refl refl (read_ended (place + 1) (factor_into link (dot_list p q n) 1 top) outer ps at power e)
+  read_ended place top outer ((pieces.Component link c n) ∷ ps) at power e =
+      ended_on place top (factor_into link (component_list c) n top) outer outer (pieces.Component link c n) ps at power refl refl (read_ended (place + 1) (factor_into link (component_list c) n top) outer ps at power e)
+  read_ended place top outer ((pieces.Delta link i j n) ∷ ps) at power e =
+      ended_on place top (factor_into link (delta_list i j) n top) outer outer (pieces.Delta link i j n) ps at power refl refl (read_ended (place + 1) (factor_into link (delta_list i j) n top) outer ps at power e)
+  read_ended place top outer ((pieces.Function link f is_commuting) ∷ ps) at power e =
+      ended_on place top (begun_function f is_commuting top) outer (linked_frame link top ∷ outer) (pieces.Function link f is_commuting) ps at power refl refl (read_ended (place + 1) (begun_function f is_commuting top) (linked_frame link top ∷ outer) ps at power e)
+  read_ended place top [] ((pieces.EndOfFunction n) ∷ ps) at power e = ended_here place top n (pieces.EndOfFunction n) ps at power refl (some_pair (place, n) (at, power) e)
+  read_ended place top (g ∷ outer) ((pieces.EndOfFunction n) ∷ ps) at power e =
+      ended_on place top (ended (list_of_frame top) n g) (g ∷ outer) outer (pieces.EndOfFunction n) ps at power refl refl (read_ended (place + 1) (ended (list_of_frame top) n g) outer ps at power e)
+  read_ended place top outer ((pieces.Index i) ∷ ps) at power e =
+      ended_on place top (argument_into (index i) top) outer outer (pieces.Index i) ps at power refl refl (read_ended (place + 1) (argument_into (index i) top) outer ps at power e)
+  read_ended place top outer ((pieces.Vector v) ∷ ps) at power e =
+      ended_on place top (argument_into (vector v) top) outer outer (pieces.Vector v) ps at power refl refl (read_ended (place + 1) (argument_into (vector v) top) outer ps at power e)
+  read_ended place top outer (pieces.Argument ∷ ps) at power e =
+      ended_on place top (in_sum (fresh (limit_of top))) outer (linked_frame links.Times top ∷ outer) pieces.Argument ps at power refl refl (read_ended (place + 1) (in_sum (fresh (limit_of top))) (linked_frame links.Times top ∷ outer) ps at power e)
+  read_ended place top [] (pieces.EndOfArgument ∷ ps) at power e = ended_here place top 1 pieces.EndOfArgument ps at power refl (some_pair (place, 1) (at, power) e)
+  read_ended place top (g ∷ outer) (pieces.EndOfArgument ∷ ps) at power e =
+      ended_on place top (ended (list_of_frame top) 1 g) (g ∷ outer) outer pieces.EndOfArgument ps at power refl refl (read_ended (place + 1) (ended (list_of_frame top) 1 g) outer ps at power e)
+  read_ended place top outer ((pieces.Open link) ∷ ps) at power e =
+      ended_on place top (in_sum (fresh (limit_of top))) outer (linked_frame link top ∷ outer) (pieces.Open link) ps at power refl refl (read_ended (place + 1) (in_sum (fresh (limit_of top))) (linked_frame link top ∷ outer) ps at power e)
+  read_ended place top [] ((pieces.Close n) ∷ ps) at power e = ended_here place top n (pieces.Close n) ps at power refl (some_pair (place, n) (at, power) e)
+  read_ended place top (g ∷ outer) ((pieces.Close n) ∷ ps) at power e =
+      ended_on place top (ended (list_of_frame top) n g) (g ∷ outer) outer (pieces.Close n) ps at power refl refl (read_ended (place + 1) (ended (list_of_frame top) n g) outer ps at power e)
 
 -- Reading factor by factor.
 
@@ -109,11 +142,20 @@ linked_first max links.Times = refl
 pub read_first : (max : ℕ) (all : List Stored) (piece : Piece) (more : List Piece)
     → list_of_pieces max all (piece ∷ more) ≡ read_from all (in_product max (is_minus_piece piece) []) (joined piece ∷ more)
 unfolding read_from fed
-read_first max all (pieces.Number link value power) more = ap (λ (p : Part). read_from all (record { top = with_factor (number_list value power) 1 p; outer = [] }) more) (linked_first max link)
-read_first max all (pieces.Symbol link symbol power) more = ap (λ (p : Part). read_from all (record { top = with_factor (symbol_list symbol power) 1 p; outer = [] }) more) (linked_first max link)
-read_first max all (pieces.Stored link expression power) more =
-    ap (λ (p : Part). read_from all (record { top = with_factor (record { terms = terms_of all expression; end = None }) power p; outer = [] }) more) (linked_first max link)
-read_first max all (pieces.Open link) more = ap (λ (p : Part). read_from all (record { top = fresh max; outer = p ∷ [] }) more) (linked_first max link)
+read_first max all (pieces.Number link value power) more = ap (λ (w : Part). read_from all (record { top = in_sum (with_factor (number_list value power) 1 w); outer = [] }) more) (linked_first max link)
+read_first max all (pieces.Symbol link symbol power) more = ap (λ (w : Part). read_from all (record { top = in_sum (with_factor (symbol_list symbol power) 1 w); outer = [] }) more) (linked_first max link)
+read_first max all (pieces.Stored link expression power) more = ap (λ (w : Part). read_from all (record { top = in_sum (with_factor (record { terms = terms_of all expression; end = None }) power w); outer = [] }) more) (linked_first max link)
+read_first max all (pieces.Imaginary link power) more = ap (λ (w : Part). read_from all (record { top = in_sum (with_factor (imaginary_list) power w); outer = [] }) more) (linked_first max link)
+read_first max all (pieces.Dot link p q power) more = ap (λ (w : Part). read_from all (record { top = in_sum (with_factor (dot_list p q power) 1 w); outer = [] }) more) (linked_first max link)
+read_first max all (pieces.Component link c power) more = ap (λ (w : Part). read_from all (record { top = in_sum (with_factor (component_list c) power w); outer = [] }) more) (linked_first max link)
+read_first max all (pieces.Delta link i j power) more = ap (λ (w : Part). read_from all (record { top = in_sum (with_factor (delta_list i j) power w); outer = [] }) more) (linked_first max link)
+read_first max all (pieces.Function link f is_commuting) more = ap (λ (w : Part). read_from all (record { top = in_function (calling max f is_commuting); outer = in_sum w ∷ [] }) more) (linked_first max link)
+read_first max all (pieces.EndOfFunction power) more = refl
+read_first max all (pieces.Index i) more = refl
+read_first max all (pieces.Vector v) more = refl
+read_first max all pieces.Argument more = refl
+read_first max all pieces.EndOfArgument more = refl
+read_first max all (pieces.Open link) more = ap (λ (w : Part). read_from all (record { top = in_sum (fresh max); outer = in_sum w ∷ [] }) more) (linked_first max link)
 read_first max all (pieces.Close power) more = refl
 
 -- a piece that begins no product
@@ -127,6 +169,26 @@ joined_same (pieces.Symbol links.Times symbol power) e = refl
 joined_same (pieces.Stored links.Plus expression power) e = cc
 joined_same (pieces.Stored links.Minus expression power) e = cc
 joined_same (pieces.Stored links.Times expression power) e = refl
+joined_same (pieces.Imaginary links.Plus power) e = cc
+joined_same (pieces.Imaginary links.Minus power) e = cc
+joined_same (pieces.Imaginary links.Times power) e = refl
+joined_same (pieces.Dot links.Plus p q power) e = cc
+joined_same (pieces.Dot links.Minus p q power) e = cc
+joined_same (pieces.Dot links.Times p q power) e = refl
+joined_same (pieces.Component links.Plus c power) e = cc
+joined_same (pieces.Component links.Minus c power) e = cc
+joined_same (pieces.Component links.Times c power) e = refl
+joined_same (pieces.Delta links.Plus i j power) e = cc
+joined_same (pieces.Delta links.Minus i j power) e = cc
+joined_same (pieces.Delta links.Times i j power) e = refl
+joined_same (pieces.Function links.Plus f is_commuting) e = cc
+joined_same (pieces.Function links.Minus f is_commuting) e = cc
+joined_same (pieces.Function links.Times f is_commuting) e = refl
+joined_same (pieces.EndOfFunction power) e = refl
+joined_same (pieces.Index i) e = refl
+joined_same (pieces.Vector v) e = refl
+joined_same pieces.Argument e = refl
+joined_same pieces.EndOfArgument e = refl
 joined_same (pieces.Open links.Plus) e = cc
 joined_same (pieces.Open links.Minus) e = cc
 joined_same (pieces.Open links.Times) e = refl
@@ -157,24 +219,48 @@ paired place (Some power) = Some (place, power)
 
 closing_end : (place deep power : ℕ) (piece : Piece) (rest : List Piece) → power_at_end deep piece ≡ Some power → closing_at place deep (piece ∷ rest) ≡ Some (place, power)
 unfolding closing_at paired
-closing_end place zero power (pieces.Close n) rest h = ap (paired place) h
-closing_end place (suc deep) power (pieces.Close n) rest h = cc
-closing_end place deep power (pieces.Open link) rest h = cc
 closing_end place deep power (pieces.Number link value n) rest h = cc
 closing_end place deep power (pieces.Symbol link symbol n) rest h = cc
 closing_end place deep power (pieces.Stored link expression n) rest h = cc
+closing_end place deep power (pieces.Imaginary link n) rest h = cc
+closing_end place deep power (pieces.Dot link p q n) rest h = cc
+closing_end place deep power (pieces.Component link c n) rest h = cc
+closing_end place deep power (pieces.Delta link i j n) rest h = cc
+closing_end place deep power (pieces.Function link f is_commuting) rest h = cc
+closing_end place zero power (pieces.EndOfFunction n) rest h = ap (paired place) h
+closing_end place (suc deep) power (pieces.EndOfFunction n) rest h = cc
+closing_end place deep power (pieces.Index i) rest h = cc
+closing_end place deep power (pieces.Vector v) rest h = cc
+closing_end place deep power pieces.Argument rest h = cc
+closing_end place zero power pieces.EndOfArgument rest h = ap (paired place) h
+closing_end place (suc deep) power pieces.EndOfArgument rest h = cc
+closing_end place deep power (pieces.Open link) rest h = cc
+closing_end place zero power (pieces.Close n) rest h = ap (paired place) h
+closing_end place (suc deep) power (pieces.Close n) rest h = cc
 
 pub closing_here : (place deep : ℕ) (piece : Piece) (ps rest : List Piece) (power : ℕ) → ps ≡ piece ∷ rest → power_at_end deep piece ≡ Some power → closing_at place deep ps ≡ Some (place, power)
 closing_here place deep piece ps rest power e ends = ap (closing_at place deep) e ∙ closing_end place deep power piece rest ends
 
 closing_next : (place deep : ℕ) (piece : Piece) (rest : List Piece) → power_at_end deep piece ≡ None → closing_at place deep (piece ∷ rest) ≡ closing_at (place + 1) (deep_behind deep piece) rest
 unfolding closing_at
-closing_next place zero (pieces.Close n) rest h = cc
-closing_next place (suc deep) (pieces.Close n) rest h = let f : suc deep - 1 ≡ deep = omega arith in rw f refl
-closing_next place deep (pieces.Open link) rest h = let f : deep + 1 ≡ suc deep = omega arith in rw f refl
 closing_next place deep (pieces.Number link value n) rest h = refl
 closing_next place deep (pieces.Symbol link symbol n) rest h = refl
 closing_next place deep (pieces.Stored link expression n) rest h = refl
+closing_next place deep (pieces.Imaginary link n) rest h = refl
+closing_next place deep (pieces.Dot link p q n) rest h = refl
+closing_next place deep (pieces.Component link c n) rest h = refl
+closing_next place deep (pieces.Delta link i j n) rest h = refl
+closing_next place deep (pieces.Function link f is_commuting) rest h = let f : deep + 1 ≡ suc deep = omega arith in rw f refl
+closing_next place zero (pieces.EndOfFunction n) rest h = cc
+closing_next place (suc deep) (pieces.EndOfFunction n) rest h = let f : suc deep - 1 ≡ deep = omega arith in rw f refl
+closing_next place deep (pieces.Index i) rest h = refl
+closing_next place deep (pieces.Vector v) rest h = refl
+closing_next place deep pieces.Argument rest h = let f : deep + 1 ≡ suc deep = omega arith in rw f refl
+closing_next place zero pieces.EndOfArgument rest h = cc
+closing_next place (suc deep) pieces.EndOfArgument rest h = let f : suc deep - 1 ≡ deep = omega arith in rw f refl
+closing_next place deep (pieces.Open link) rest h = let f : deep + 1 ≡ suc deep = omega arith in rw f refl
+closing_next place zero (pieces.Close n) rest h = cc
+closing_next place (suc deep) (pieces.Close n) rest h = let f : suc deep - 1 ≡ deep = omega arith in rw f refl
 
 pub closing_on : (place deep : ℕ) (piece : Piece) (ps rest : List Piece) → ps ≡ piece ∷ rest → power_at_end deep piece ≡ None → closing_at place deep ps ≡ closing_at (place + 1) (deep_behind deep piece) rest
 closing_on place deep piece ps rest e goes = ap (closing_at place deep) e ∙ closing_next place deep piece rest goes
@@ -185,8 +271,18 @@ closing_none place deep ps e = ap (closing_at place deep) e
 
 -- at most one more is open behind a piece
 pub deep_most : (deep : ℕ) (piece : Piece) → deep_behind deep piece ≤ deep + 1
-deep_most deep (pieces.Open link) = omega arith
-deep_most deep (pieces.Close power) = omega arith
 deep_most deep (pieces.Number link value power) = omega arith
 deep_most deep (pieces.Symbol link symbol power) = omega arith
 deep_most deep (pieces.Stored link expression power) = omega arith
+deep_most deep (pieces.Imaginary link power) = omega arith
+deep_most deep (pieces.Dot link p q power) = omega arith
+deep_most deep (pieces.Component link c power) = omega arith
+deep_most deep (pieces.Delta link i j power) = omega arith
+deep_most deep (pieces.Function link f is_commuting) = omega arith
+deep_most deep (pieces.EndOfFunction power) = omega arith
+deep_most deep (pieces.Index i) = omega arith
+deep_most deep (pieces.Vector v) = omega arith
+deep_most deep pieces.Argument = omega arith
+deep_most deep pieces.EndOfArgument = omega arith
+deep_most deep (pieces.Open link) = omega arith
+deep_most deep (pieces.Close power) = omega arith

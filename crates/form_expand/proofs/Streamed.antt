@@ -20,6 +20,11 @@ use Rattle.form_expand.proofs.Listings.{followed_before, followed_nothing, follo
 pub gives_from : (r : Result (Option Monomial) ExpandError) (old same new : Listing) → old ≡ same → Gives r same new → Gives r old new
 gives_from r old same new e h = subst (λ (l : Listing). Gives r l new) (sym e) h
 
+-- a refusal, whatever is left behind it
+pub gives_err_from : (e : ExpandError) (old same new then : Listing) → old ≡ same → Gives (Err e) same new → Gives (Err e) old then
+gives_err_from (Refused cause) old same new then e h = e ∙ h
+gives_err_from Memory old same new then e h = tt
+
 module _ (limit given : ℕ) (is_minus : Bool) (rest : Listing) where
   -- where this is left of the product at hand
   abbrev left : Listing → Listing

@@ -9,7 +9,7 @@ use Rattle.form_expand.specs.declared.error.ExpandError.TheVariants.{Refused, Me
 use Rattle.form_expand.specs.Listing.{Listing, nothing, refusal, before, before_by, limited}
 use Rattle.form_expand.specs.Left.{Level, left_at, left_past, product_by, times_by}
 use Rattle.form_expand.specs.Kept.{ended_by}
-use Rattle.form_expand.specs.Next.{Gives, Takes, IsMade}
+use Rattle.form_expand.specs.Next.{Gives, Goes, Takes, IsMade, progress_of}
 use Rattle.form_expand.proofs.Listings.{times_end, limited_more, limited_none, limited_within}
 use Rattle.form_expand.proofs.Levels.{taken_at, over_at, refused_at, done_at, times_by_before}
 
@@ -19,8 +19,12 @@ at_end end = record { terms = []; end = end }
 
 -- what is left of a pairing, by what is left of its right list
 
-pub times_by_made : (left : Option Monomial) (t m : Monomial) (rest more : Listing) → rest ≡ before t more → product_by left t ≡ Ok m → times_by left rest ≡ before m (times_by left more)
+pub times_by_made : (left : Option Monomial) (t m : Monomial) (rest more : Listing) → rest ≡ before t more → product_by left t ≡ Ok (Some m) → times_by left rest ≡ before m (times_by left more)
 times_by_made left t m rest more first made = ap (times_by left) first ∙ times_by_before left t more ∙ ap (λ r. before_by r (times_by left more)) made
+
+-- a product that is 0 gives no term
+times_by_zero : (left : Option Monomial) (t : Monomial) (rest more : Listing) → rest ≡ before t more → product_by left t ≡ Ok None → times_by left rest ≡ times_by left more
+times_by_zero left t rest more first made = ap (times_by left) first ∙ times_by_before left t more ∙ ap (λ r. before_by r (times_by left more)) made
 
 pub times_by_refused : (left : Option Monomial) (t : Monomial) (cause : Cause) (rest more : Listing) → rest ≡ before t more → product_by left t ≡ Err cause → times_by left rest ≡ refusal cause
 times_by_refused left t cause rest more first made = ap (times_by left) first ∙ times_by_before left t more ∙ ap (λ r. before_by r (times_by left more)) made
@@ -53,16 +57,6 @@ module _ (max : ℕ) (old : Level) where
       λ x. ap (λ o. left_at max (record { count = old.count; list = old.list; opened = o }) x) e ∙ done_at max old.count old.list x
       ∙ ap (λ n. left_past max (record { count = n; list = old.list }) x) (sym count) ∙ ap (λ l. left_past max (record { count = new.count; list = l }) x) (sym list)
 
-  -- behind the last term of the right list
-  pub takes_end : (end : Option Cause) (new : Level) → old.opened ≡ at_end end → (end ≡ None → (new.count ≡ old.count) × (new.list ≡ old.list)) → Takes max (ended_by end) old new
-  takes_end None new e same = let s = same refl in takes_none new e s.0 s.1
-  takes_end (Some cause) new e same = takes_refused cause new e
-
-  -- where a product wasn't made
-  pub takes_unmade : (left : Option Monomial) (t : Monomial) (rest more : Listing) (e : ExpandError) (new : Level) → old.opened ≡ times_by left rest → rest ≡ before t more → IsMade (Err e) (product_by left t) → Takes max (Err e) old new
-  takes_unmade left t rest more (Refused cause) new opened first made = takes_refused cause new (opened ∙ times_by_refused left t cause rest more first made)
-  takes_unmade left t rest more Memory new opened first made = tt
-
 -- A list that is taken alone.
 
 module _ (max count : ℕ) where
@@ -80,19 +74,24 @@ module _ (max count : ℕ) where
   limited_end end rest e = ap (limited (max - count)) e ∙ limited_within (max - count) (at_end end) (omega arith)
 
 -- behind the last term
-pub gives_end : (end : Option Cause) (old new : Listing) → old ≡ at_end end → (end ≡ None → new ≡ at_end None) → Gives (ended_by end) old new
-gives_end None old new e same = (e, same refl)
-gives_end (Some cause) old new e same = e
+pub goes_end : (end : Option Cause) (old new : Listing) → old ≡ at_end end → (end ≡ None → new ≡ at_end None) → Goes (ended_by end) old new
+goes_end None old new e same = (e, same refl)
+goes_end (Some cause) old new e same = e
+
+-- a product was made
+pub goes_made : (left : Option Monomial) (t : Monomial) (made : Option Monomial) (rest more : Listing) → rest ≡ before t more → product_by left t ≡ Ok made → Goes (Ok (progress_of made)) (times_by left rest) (times_by left more)
+goes_made left t None rest more first made = sym (times_by_zero left t rest more first made)
+goes_made left t (Some m) rest more first made = times_by_made left t m rest more first made
 
 -- where a product wasn't made
-pub gives_unmade : (left : Option Monomial) (t : Monomial) (rest more : Listing) (e : ExpandError) (new : Listing) → rest ≡ before t more → IsMade (Err e) (product_by left t) → Gives (Err e) (times_by left rest) new
-gives_unmade left t rest more (Refused cause) new first made = times_by_refused left t cause rest more first made
-gives_unmade left t rest more Memory new first made = tt
+pub goes_unmade : (left : Option Monomial) (t : Monomial) (rest more : Listing) (e : ExpandError) (new : Listing) → rest ≡ before t more → IsMade (Err e) (product_by left t) → Goes (Err e) (times_by left rest) new
+goes_unmade left t rest more (Refused cause) new first made = times_by_refused left t cause rest more first made
+goes_unmade left t rest more Memory new first made = tt
 
 -- where the next term of the right list wasn't given
-pub gives_times_err : (left : Option Monomial) (e : ExpandError) (old new then : Listing) → Gives (Err e) old new → Gives (Err e) (times_by left old) then
-gives_times_err left (Refused cause) old new then h = ap (times_by left) h ∙ times_by_end left (Some cause)
-gives_times_err left Memory old new then h = tt
+pub goes_times_err : (left : Option Monomial) (e : ExpandError) (old new then : Listing) → Gives (Err e) old new → Goes (Err e) (times_by left old) then
+goes_times_err left (Refused cause) old new then h = ap (times_by left) h ∙ times_by_end left (Some cause)
+goes_times_err left Memory old new then h = tt
 
 -- where the next term of a level's pairing wasn't given
 pub takes_ungiven : (max : ℕ) (old new : Level) (e : ExpandError) (then : Listing) → Gives (Err e) old.opened then → Takes max (Err e) old new

@@ -1,19 +1,22 @@
 -- Reading the pieces of a tree gives the list of the tree.
 use Rattle.std.proofs.Common.{◌≡◌, ℕ, ◌≤◌, Bool, true, false, List, [], ◌∷◌, ◌++◌, length, refl, sym, ap, ◌∙◌, append_assoc, append-nil}
-use Rattle.std.specs.Prelude.{None}
+use Rattle.std.specs.Prelude.{None, Result, Ok}
+use Rattle.form_base.specs.declared.cause.Cause.{Cause}
+use Rattle.form_term.specs.Term as terms
 use Rattle.form_tree.specs.declared.tree.Link.{Link}
 use Rattle.form_tree.specs.declared.tree.Link.TheVariants as links
 use Rattle.form_tree.specs.declared.tree.Piece.{Piece}
 use Rattle.form_tree.specs.declared.tree.Piece.TheVariants as pieces
 use Rattle.form_tree.specs.Tree as tree
-use Rattle.form_tree.specs.Tree.{Sum, Product, Factor, pieces_of_sum, pieces_of_product, pieces_of_factor, link_of}
+use Rattle.form_tree.specs.Tree.{Sum, Product, Factor, Arguments, Argument, pieces_of_sum, pieces_of_product, pieces_of_factor, pieces_of_arguments, pieces_of_argument, link_of}
 use Rattle.form_expand.specs.declared.stored.Stored.{Stored}
-use Rattle.form_expand.specs.Expanding.{list_of_sum, list_of_product, list_of_factor}
+use Rattle.form_expand.specs.Expanding.{list_of_sum, list_of_product, list_of_factor, arguments_of, argument_in}
 use Rattle.form_expand.specs.Left.{row, row_behind}
 use Rattle.form_expand.specs.Listing.{Listing, nothing, limited, followed, pairs, powers, signed}
 use Rattle.form_expand.specs.Numbers.{number_list, symbol_list}
+use Rattle.form_expand.specs.Singles.{imaginary_list, dot_list, component_list, delta_list, function_list, argument_of, with_argument}
 use Rattle.form_expand.specs.Stored.{terms_of}
-use Rattle.form_expand.specs.Reading.{Part, fresh, closed, linked, with_piece, fed, read_from, list_of_pieces}
+use Rattle.form_expand.specs.Reading.{Part, Calling, Frame, in_sum, in_function, fresh, closed, linked, with_factor, fed, read_from, list_of_pieces}
 use Rattle.form_expand.proofs.Listings.{limited_within, limited_length, limited_again, limited_powers, limited_nothing, signed_length, followed_nothing}
 use Rattle.form_expand.proofs.Products.{row_push}
 
@@ -56,6 +59,11 @@ module _ (max : ℕ) (all : List Stored) where
   unfolding list_of_factor
   limited_factor (tree.number n k) = limited_again max (number_list n k)
   limited_factor (tree.symbol s k) = limited_again max (symbol_list s k)
+  limited_factor (tree.imaginary k) = limited_powers max imaginary_list k
+  limited_factor (tree.dot p q k) = limited_again max (dot_list p q k)
+  limited_factor (tree.component c k) = limited_powers max (component_list c) k
+  limited_factor (tree.delta i j k) = limited_powers max (delta_list i j) k
+  limited_factor (tree.function f is_commuting args k) = limited_powers max (function_list f is_commuting (arguments_of max all args)) k
   limited_factor (tree.stored e k) = limited_powers max (record { terms = terms_of all e; end = None }) k
   limited_factor (tree.parenthesis s k) = limited_powers max (list_of_sum max all s) k
 
@@ -108,54 +116,86 @@ module _ (max : ℕ) (all : List Stored) where
   linked_max links.Minus sum is_minus factors = refl
   linked_max links.Times sum is_minus factors = refl
 
-  -- a factor that is one piece
-  piece_read : (link : Link) (l list : Listing) (power : ℕ) (sum : Listing) (is_minus : Bool) (factors : List Listing) (outer : List Part) (rest : List Piece) → powers max l power ≡ list
-      → read_from all (with_piece link l power (record { top = part sum is_minus factors; outer = outer })) rest ≡ read_from all (record { top = with_list link list (part sum is_minus factors); outer = outer }) rest
+  -- a factor that is one piece, or that ends here
+  piece_read : (link : Link) (l list : Listing) (power : ℕ) (sum : Listing) (is_minus : Bool) (factors : List Listing) (outer : List Frame) (rest : List Piece) → powers max l power ≡ list
+      → read_from all (record { top = in_sum (with_factor l power (linked link (part sum is_minus factors))); outer = outer }) rest ≡ read_from all (record { top = in_sum (with_list link list (part sum is_minus factors)); outer = outer }) rest
   piece_read link l list power sum is_minus factors outer rest e =
       let q = linked link (part sum is_minus factors) in
-      ap (λ k. read_from all (record { top = record { max = q.max; sum = q.sum; is_minus = q.is_minus; factors = q.factors ++ k ∷ [] }; outer = outer }) rest)
+      ap (λ k. read_from all (record { top = in_sum (record { max = q.max; sum = q.sum; is_minus = q.is_minus; factors = q.factors ++ k ∷ [] }); outer = outer }) rest)
       (ap (λ n. powers n l power) (linked_max link sum is_minus factors) ∙ e)
+
+  -- a function that is being read, and these are its arguments so far
+  abbrev called : ℕ → Bool → Result (List terms.Argument) Cause → Calling
+  called f is_commuting args = record { max = max; function = f; is_commuting = is_commuting; arguments = args }
 
   mutual
     unfolding read_from fed list_of_factor powers
 
-    read_factor : (f : Factor) (link : Link) (sum : Listing) (is_minus : Bool) (factors : List Listing) (outer : List Part) (rest : List Piece)
-        → read_from all (record { top = part sum is_minus factors; outer = outer }) (pieces_of_factor link f ++ rest)
-        ≡ read_from all (record { top = with_list link (list_of_factor max all f) (part sum is_minus factors); outer = outer }) rest
+    read_factor : (f : Factor) (link : Link) (sum : Listing) (is_minus : Bool) (factors : List Listing) (outer : List Frame) (rest : List Piece)
+        → read_from all (record { top = in_sum (part sum is_minus factors); outer = outer }) (pieces_of_factor link f ++ rest)
+        ≡ read_from all (record { top = in_sum (with_list link (list_of_factor max all f) (part sum is_minus factors)); outer = outer }) rest
     read_factor (tree.number n k) link sum is_minus factors outer rest = piece_read link (number_list n k) (limited max (number_list n k)) 1 sum is_minus factors outer rest refl
     read_factor (tree.symbol s k) link sum is_minus factors outer rest = piece_read link (symbol_list s k) (limited max (symbol_list s k)) 1 sum is_minus factors outer rest refl
     read_factor (tree.stored e k) link sum is_minus factors outer rest =
         let terms : Listing = record { terms = terms_of all e; end = None } in
         piece_read link terms (powers max terms k) k sum is_minus factors outer rest refl
+    read_factor (tree.imaginary k) link sum is_minus factors outer rest = piece_read link imaginary_list (powers max imaginary_list k) k sum is_minus factors outer rest refl
+    read_factor (tree.dot p q k) link sum is_minus factors outer rest = piece_read link (dot_list p q k) (limited max (dot_list p q k)) 1 sum is_minus factors outer rest refl
+    read_factor (tree.component c k) link sum is_minus factors outer rest = piece_read link (component_list c) (powers max (component_list c) k) k sum is_minus factors outer rest refl
+    read_factor (tree.delta i j k) link sum is_minus factors outer rest = piece_read link (delta_list i j) (powers max (delta_list i j) k) k sum is_minus factors outer rest refl
+    read_factor (tree.function f is_commuting args k) link sum is_minus factors outer rest =
+        let q : Frame = in_sum (linked link (part sum is_minus factors)) in
+        ap (read_from all (record { top = in_function (called f is_commuting (Ok [])); outer = q ∷ outer })) (append_assoc (pieces_of_arguments args) (pieces.EndOfFunction k ∷ []) rest)
+        ∙ read_arguments args f is_commuting (q ∷ outer) (pieces.EndOfFunction k ∷ rest)
+        ∙ piece_read link (function_list f is_commuting (arguments_of max all args)) (powers max (function_list f is_commuting (arguments_of max all args)) k) k sum is_minus factors outer rest refl
     read_factor (tree.parenthesis s k) link sum is_minus factors outer rest =
-        let q : Part = linked link (part sum is_minus factors) in
-        ap (λ n. read_from all (record { top = fresh n; outer = q ∷ outer }) ((pieces_of_sum s ++ pieces.Close k ∷ []) ++ rest)) refl
-        ∙ ap (read_from all (record { top = fresh max; outer = q ∷ outer })) (append_assoc (pieces_of_sum s) (pieces.Close k ∷ []) rest)
+        let q : Frame = in_sum (linked link (part sum is_minus factors)) in
+        ap (read_from all (record { top = in_sum (fresh max); outer = q ∷ outer })) (append_assoc (pieces_of_sum s) (pieces.Close k ∷ []) rest)
         ∙ read_sum s (q ∷ outer) (pieces.Close k ∷ rest)
         ∙ piece_read link (closed (part_of s)) (powers max (list_of_sum max all s) k) k sum is_minus factors outer rest (ap (λ l. powers max l k) (list_of_part s))
 
-    read_product : (p : Product) (is_minus : Bool) (sum : Listing) (was_minus : Bool) (factors : List Listing) (outer : List Part) (rest : List Piece)
-        → read_from all (record { top = part sum was_minus factors; outer = outer }) (pieces_of_product (link_of is_minus) p ++ rest)
-        ≡ read_from all (record { top = with_product is_minus p (closed (part sum was_minus factors)); outer = outer }) rest
+    read_arguments : (args : Arguments) (f : ℕ) (is_commuting : Bool) (outer : List Frame) (rest : List Piece)
+        → read_from all (record { top = in_function (called f is_commuting (Ok [])); outer = outer }) (pieces_of_arguments args ++ rest)
+        ≡ read_from all (record { top = in_function (called f is_commuting (arguments_of max all args)); outer = outer }) rest
+    read_arguments tree.empty f is_commuting outer rest = refl
+    read_arguments (tree.further args a) f is_commuting outer rest =
+        ap (read_from all (record { top = in_function (called f is_commuting (Ok [])); outer = outer })) (append_assoc (pieces_of_arguments args) (pieces_of_argument a) rest)
+        ∙ read_arguments args f is_commuting outer (pieces_of_argument a ++ rest)
+        ∙ read_argument a f is_commuting (arguments_of max all args) outer rest
+
+    read_argument : (a : Argument) (f : ℕ) (is_commuting : Bool) (args : Result (List terms.Argument) Cause) (outer : List Frame) (rest : List Piece)
+        → read_from all (record { top = in_function (called f is_commuting args); outer = outer }) (pieces_of_argument a ++ rest)
+        ≡ read_from all (record { top = in_function (called f is_commuting (with_argument args (argument_in max all a))); outer = outer }) rest
+    read_argument (tree.index i) f is_commuting args outer rest = refl
+    read_argument (tree.vector v) f is_commuting args outer rest = refl
+    read_argument (tree.expression s) f is_commuting args outer rest =
+        let k : Frame = in_function (called f is_commuting args) in
+        ap (read_from all (record { top = in_sum (fresh max); outer = k ∷ outer })) (append_assoc (pieces_of_sum s) (pieces.EndOfArgument ∷ []) rest)
+        ∙ read_sum s (k ∷ outer) (pieces.EndOfArgument ∷ rest)
+        ∙ ap (λ l. read_from all (record { top = in_function (called f is_commuting (with_argument args (argument_of l))); outer = outer }) rest) (list_of_part s)
+
+    read_product : (p : Product) (is_minus : Bool) (sum : Listing) (was_minus : Bool) (factors : List Listing) (outer : List Frame) (rest : List Piece)
+        → read_from all (record { top = in_sum (part sum was_minus factors); outer = outer }) (pieces_of_product (link_of is_minus) p ++ rest)
+        ≡ read_from all (record { top = in_sum (with_product is_minus p (closed (part sum was_minus factors))); outer = outer }) rest
     read_product (tree.one f) true sum was_minus factors outer rest = read_factor f links.Minus sum was_minus factors outer rest
     read_product (tree.one f) false sum was_minus factors outer rest = read_factor f links.Plus sum was_minus factors outer rest
     read_product (tree.times p f) is_minus sum was_minus factors outer rest =
-        ap (read_from all (record { top = part sum was_minus factors; outer = outer })) (append_assoc (pieces_of_product (link_of is_minus) p) (pieces_of_factor links.Times f) rest)
+        ap (read_from all (record { top = in_sum (part sum was_minus factors); outer = outer })) (append_assoc (pieces_of_product (link_of is_minus) p) (pieces_of_factor links.Times f) rest)
         ∙ read_product p is_minus sum was_minus factors outer (pieces_of_factor links.Times f ++ rest)
         ∙ read_factor f links.Times (closed (part sum was_minus factors)) is_minus (lists_of p) outer rest
 
-    read_sum : (s : Sum) (outer : List Part) (rest : List Piece)
-        → read_from all (record { top = fresh max; outer = outer }) (pieces_of_sum s ++ rest) ≡ read_from all (record { top = part_of s; outer = outer }) rest
+    read_sum : (s : Sum) (outer : List Frame) (rest : List Piece)
+        → read_from all (record { top = in_sum (fresh max); outer = outer }) (pieces_of_sum s ++ rest) ≡ read_from all (record { top = in_sum (part_of s); outer = outer }) rest
     read_sum (tree.first is_minus p) outer rest = read_product p is_minus nothing false [] outer rest
     read_sum (tree.more s is_minus p) outer rest =
-        ap (read_from all (record { top = fresh max; outer = outer })) (append_assoc (pieces_of_sum s) (pieces_of_product (link_of is_minus) p) rest)
+        ap (read_from all (record { top = in_sum (fresh max); outer = outer })) (append_assoc (pieces_of_sum s) (pieces_of_product (link_of is_minus) p) rest)
         ∙ read_sum s outer (pieces_of_product (link_of is_minus) p ++ rest)
         ∙ read_product p is_minus (sum_before s) (last_sign s) (lists_of (last_product s)) outer rest
 
   pub pieces_of_tree : (s : Sum) → list_of_pieces max all (pieces_of_sum s) ≡ list_of_sum max all s
   unfolding read_from
   pieces_of_tree s =
-      ap (read_from all (record { top = fresh max; outer = [] })) (sym (append-nil (pieces_of_sum s)))
+      ap (read_from all (record { top = in_sum (fresh max); outer = [] })) (sym (append-nil (pieces_of_sum s)))
       ∙ read_sum s [] []
       ∙ list_of_part s
 

@@ -4,7 +4,7 @@ use Rattle.form_expand.specs.declared.product.Level.{Level}
 use Rattle.form_expand.specs.declared.product.Queued.{Queued}
 use Rattle.form_expand.specs.declared.product.Product.{Product}
 use Rattle.form_expand.specs.declared.factor.Factor.{Factor}
-use Rattle.form_expand.specs.declared.factor.Factor.TheVariants.{Once, Power, Parenthesis}
+use Rattle.form_expand.specs.declared.factor.Factor.TheVariants.{Once, Power, Parenthesis, Function}
 
 abbrev pub total : {X : Type 0} → (X → ℕ) → List X → ℕ
 total f [] = 0
@@ -14,6 +14,7 @@ abbrev pub factor_depth : Factor → ℕ
 factor_depth (Once walk) = 0
 factor_depth (Power power) = 0
 factor_depth (Parenthesis inner) = inner.value.depth + 1
+factor_depth (Function f) = 0
 
 abbrev pub level_depth : Level → ℕ
 level_depth l = factor_depth l.factor

@@ -6,7 +6,7 @@ use Rattle.form_expand.specs.declared.product.Level.{Level}
 use Rattle.form_expand.specs.declared.product.Queued.{Queued}
 use Rattle.form_expand.specs.declared.product.Product.{Product}
 use Rattle.form_expand.specs.declared.factor.Factor.{Factor}
-use Rattle.form_expand.specs.declared.factor.Factor.TheVariants.{Once, Power, Parenthesis}
+use Rattle.form_expand.specs.declared.factor.Factor.TheVariants.{Once, Power, Parenthesis, Function}
 use Rattle.form_expand.specs.declared.parenthesis.Parenthesis.TheDeep.{deep-Product, deep-Level, deep-Queued, deep-Factor}
 use Rattle.form_expand.specs.declared.parenthesis.Parenthesis.TheShapes.{weighed-Product-top, weighed-Product-below, weighed-Product-waiting}
 use Rattle.form_expand.specs.Depths.{total, factor_depth, level_depth, queued_depth, product_depth}
@@ -19,6 +19,7 @@ factor_falls : (f : Factor) → deep-Factor f ≤ factor_depth f
 factor_falls (Once walk) = omega arith
 factor_falls (Power power) = omega arith
 factor_falls (Parenthesis inner) = omega arith
+factor_falls (Function f) = omega arith
 
 level_falls : (l : Level) → deep-Level l ≤ level_depth l
 level_falls l = omega (arith, factor_falls l.factor)

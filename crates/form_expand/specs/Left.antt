@@ -35,8 +35,8 @@ left_past_all max [] before = before
 left_past_all max (w ∷ waiting) before = left_past max w (left_past_all max waiting before)
 
 -- a term, or none at the front of a row, times a term
-abbrev pub product_by : Option Monomial → Monomial → Result Monomial Cause
-product_by None r = Ok r
+abbrev pub product_by : Option Monomial → Monomial → Result (Option Monomial) Cause
+product_by None r = Ok (Some r)
 product_by (Some m) r = product_of m r
 
 abbrev pub times_by : Option Monomial → Listing → Listing

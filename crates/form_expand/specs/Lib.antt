@@ -1,3 +1,4 @@
+pub mod Calls
 pub mod Closings
 pub mod Depths
 pub mod Error
@@ -13,9 +14,11 @@ pub mod Modes
 pub mod Next
 pub mod Numbers
 pub mod Parentheses
+pub mod Pieces
 pub mod Products
 pub mod Readers
 pub mod Reading
+pub mod Singles
 pub mod Stored
 pub mod Streams
 pub mod Walks

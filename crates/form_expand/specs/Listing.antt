@@ -37,12 +37,13 @@ followed_at ms (Some cause) b = record { terms = ms; end = Some cause }
 abbrev pub followed : Listing → Listing → Listing
 followed a b = followed_at a.terms a.end b
 
--- what a product gives before a list: its term, or a refusal in place of all
-abbrev pub before_by : Result Monomial Cause → Listing → Listing
-before_by (Ok m) rest = before m rest
+-- what a product gives before a list: its term, or nothing where it is 0, or a refusal in place of all
+abbrev pub before_by : Result (Option Monomial) Cause → Listing → Listing
+before_by (Ok (Some m)) rest = before m rest
+before_by (Ok None) rest = rest
 before_by (Err cause) rest = refusal cause
 
--- a term times each of a list in order, up to the first product that is refused
+-- a term times each of a list in order, up to the first product that is refused; a product that is 0 gives no term
 unfoldable pub times_each : Monomial → List Monomial → Option Cause → Listing
 times_each m [] end = record { terms = []; end = end }
 times_each m (r ∷ rs) end = before_by (product_of m r) (times_each m rs end)

@@ -1,5 +1,5 @@
 -- Products of numbers and symbols, each of which is one term.
-use Rattle.std.specs.Prelude.{◌≡◌, ℕ, ◌≤◌, ◌<◌, Bool, true, false, List, length, drop, Ok}
+use Rattle.std.specs.Prelude.{◌≡◌, ℕ, ◌≤◌, ◌<◌, Bool, true, false, List, length, drop, Some, Ok}
 use Rattle.form_term.specs.declared.monomial.Monomial.{Monomial}
 use Rattle.form_term.specs.Monomial.{unit}
 use Rattle.form_normal.specs.Product.{product_of}
@@ -23,8 +23,8 @@ sign_behind is_minus links.Times = is_minus
 pub record IsTimes (l : Listing) (old new : Monomial) : Type 0 where
   pub factor : Monomial
   pub alone : l ≡ single factor
-  pub by_one : product_of unit factor ≡ Ok factor
-  pub product : product_of old factor ≡ Ok new
+  pub by_one : product_of unit factor ≡ Ok (Some factor)
+  pub product : product_of old factor ≡ Ok (Some new)
 
 -- a number or a symbol is taken as a further factor
 abbrev pub IsTaken : Piece → Literal → Literal → Type 0

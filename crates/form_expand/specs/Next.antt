@@ -32,8 +32,13 @@ Goes (Ok progress.Done) old new = (old ≡ nothing) × (new ≡ nothing)
 Goes (Err (Refused cause)) old new = old ≡ refusal cause
 Goes (Err Memory) old new = Unit {0}
 
--- a product, or its refusal
-abbrev pub IsMade : Result Monomial ExpandError → Result Monomial Cause → Type 0
+-- a product, none where it is 0, or its refusal
+abbrev pub IsMade : Result (Option Monomial) ExpandError → Result (Option Monomial) Cause → Type 0
 IsMade (Ok m) made = made ≡ Ok m
 IsMade (Err (Refused cause)) made = made ≡ Err cause
 IsMade (Err Memory) made = Unit {0}
+
+-- a step that gives a product, and moves on where it is 0
+abbrev pub progress_of : Option Monomial → Progress
+progress_of None = progress.Moves
+progress_of (Some m) = progress.Gives m

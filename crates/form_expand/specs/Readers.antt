@@ -7,7 +7,7 @@ use Rattle.form_tree.specs.declared.tree.Piece.TheVariants as pieces
 use Rattle.form_expand.specs.declared.stored.Stored.{Stored}
 use Rattle.form_expand.specs.Left.{row}
 use Rattle.form_expand.specs.Listing.{Listing, nothing, limited, followed, signed}
-use Rattle.form_expand.specs.Reading.{Part, Reading, fresh, begins_product, read_from, list_of_pieces}
+use Rattle.form_expand.specs.Reading.{Part, Calling, Frame, in_sum, in_function, Reading, fresh, calling, begins_product, read_from, list_of_pieces}
 
 abbrev pub is_minus_link : Link → Bool
 is_minus_link links.Plus = false
@@ -19,6 +19,16 @@ abbrev pub is_minus_piece : Piece → Bool
 is_minus_piece (pieces.Number link value power) = is_minus_link link
 is_minus_piece (pieces.Symbol link symbol power) = is_minus_link link
 is_minus_piece (pieces.Stored link expression power) = is_minus_link link
+is_minus_piece (pieces.Imaginary link power) = is_minus_link link
+is_minus_piece (pieces.Dot link p q power) = is_minus_link link
+is_minus_piece (pieces.Component link c power) = is_minus_link link
+is_minus_piece (pieces.Delta link i j power) = is_minus_link link
+is_minus_piece (pieces.Function link f is_commuting) = is_minus_link link
+is_minus_piece (pieces.EndOfFunction power) = false
+is_minus_piece (pieces.Index i) = false
+is_minus_piece (pieces.Vector v) = false
+is_minus_piece pieces.Argument = false
+is_minus_piece pieces.EndOfArgument = false
 is_minus_piece (pieces.Open link) = is_minus_link link
 is_minus_piece (pieces.Close power) = false
 
@@ -27,6 +37,16 @@ abbrev pub joined : Piece → Piece
 joined (pieces.Number link value power) = pieces.Number links.Times value power
 joined (pieces.Symbol link symbol power) = pieces.Symbol links.Times symbol power
 joined (pieces.Stored link expression power) = pieces.Stored links.Times expression power
+joined (pieces.Imaginary link power) = pieces.Imaginary links.Times power
+joined (pieces.Dot link p q power) = pieces.Dot links.Times p q power
+joined (pieces.Component link c power) = pieces.Component links.Times c power
+joined (pieces.Delta link i j power) = pieces.Delta links.Times i j power
+joined (pieces.Function link f is_commuting) = pieces.Function links.Times f is_commuting
+joined (pieces.EndOfFunction power) = pieces.EndOfFunction power
+joined (pieces.Index i) = pieces.Index i
+joined (pieces.Vector v) = pieces.Vector v
+joined pieces.Argument = pieces.Argument
+joined pieces.EndOfArgument = pieces.EndOfArgument
 joined (pieces.Open link) = pieces.Open links.Times
 joined (pieces.Close power) = pieces.Close power
 
@@ -35,11 +55,11 @@ abbrev pub product_part : ℕ → Bool → List Listing → Part
 product_part max is_minus factors = record { max = max; sum = nothing; is_minus = is_minus; factors = factors }
 
 abbrev pub in_product : ℕ → Bool → List Listing → Reading
-in_product max is_minus factors = record { top = product_part max is_minus factors; outer = [] }
+in_product max is_minus factors = record { top = in_sum (product_part max is_minus factors); outer = [] }
 
--- a parenthesis begins in it
-abbrev pub in_parenthesis : ℕ → Bool → List Listing → Reading
-in_parenthesis max is_minus factors = record { top = fresh max; outer = product_part max is_minus factors ∷ [] }
+-- something begins in it
+abbrev pub in_frame : Frame → ℕ → Bool → List Listing → Reading
+in_frame f max is_minus factors = record { top = f; outer = in_sum (product_part max is_minus factors) ∷ [] }
 
 -- a product that begins there, or the end
 abbrev pub EndsProduct : List Piece → Type 0
@@ -50,8 +70,19 @@ EndsProduct (p ∷ ps) = begins_product p ≡ true
 abbrev pub IsReadFactor : ℕ → List Stored → Piece → List Piece → List Listing → List Listing → List Piece → Type 0
 IsReadFactor max all piece more old new rest = (is_minus : Bool) → read_from all (in_product max is_minus old) (joined piece ∷ more) ≡ read_from all (in_product max is_minus new) rest
 
+-- the same behind the piece that begins a parenthesis, or a function
+abbrev pub IsReadWithin : Frame → ℕ → List Stored → List Piece → List Listing → List Listing → List Piece → Type 0
+IsReadWithin f max all ps old new rest = (is_minus : Bool) → read_from all (in_frame f max is_minus old) ps ≡ read_from all (in_product max is_minus new) rest
+
 abbrev pub IsReadParenthesis : ℕ → List Stored → List Piece → List Listing → List Listing → List Piece → Type 0
-IsReadParenthesis max all ps old new rest = (is_minus : Bool) → read_from all (in_parenthesis max is_minus old) ps ≡ read_from all (in_product max is_minus new) rest
+IsReadParenthesis max all ps old new rest = IsReadWithin (in_sum (fresh max)) max all ps old new rest
+
+abbrev pub IsReadFunction : ℕ → Bool → ℕ → List Stored → List Piece → List Listing → List Listing → List Piece → Type 0
+IsReadFunction f is_commuting max all ps old new rest = IsReadWithin (in_function (calling max f is_commuting)) max all ps old new rest
+
+-- the list of a function whose arguments so far are these, and the pieces of the others these
+abbrev pub list_of_calling : List Stored → Calling → List Piece → Listing
+list_of_calling all k ps = read_from all (record { top = in_function k; outer = [] }) ps
 
 abbrev pub IsReadOn : ℕ → List Stored → List Piece → List Listing → List Listing → List Piece → Type 0
 IsReadOn max all ps old new rest = ((is_minus : Bool) → read_from all (in_product max is_minus old) ps ≡ read_from all (in_product max is_minus new) rest) × EndsProduct rest

@@ -1,5 +1,7 @@
 -- Reading the pieces of a right side from the front.
-use Rattle.std.specs.Prelude.{ℕ, Bool, true, false, List, [], ◌∷◌, ◌++◌, None}
+use Rattle.std.specs.Prelude.{ℕ, Bool, true, false, List, [], ◌∷◌, ◌++◌, None, Result, Ok}
+use Rattle.form_base.specs.declared.cause.Cause.{Cause}
+use Rattle.form_term.specs.Term.{Argument, index, vector}
 use Rattle.form_tree.specs.declared.tree.Link.{Link}
 use Rattle.form_tree.specs.declared.tree.Link.TheVariants as links
 use Rattle.form_tree.specs.declared.tree.Piece.{Piece}
@@ -8,6 +10,7 @@ use Rattle.form_expand.specs.declared.stored.Stored.{Stored}
 use Rattle.form_expand.specs.Left.{row}
 use Rattle.form_expand.specs.Listing.{Listing, nothing, limited, followed, powers, signed}
 use Rattle.form_expand.specs.Numbers.{number_list, symbol_list}
+use Rattle.form_expand.specs.Singles.{imaginary_list, dot_list, component_list, delta_list, function_list, argument_of, with_argument}
 use Rattle.form_expand.specs.Stored.{terms_of}
 
 -- A sum that is being read, to this limit of terms: the list of the products that are read, and of the product at hand
@@ -18,13 +21,37 @@ pub record Part : Type 0 where
   pub is_minus : Bool
   pub factors : List Listing
 
--- a sum before its first product
+-- A function that is being read, whose lists have this limit: its arguments so far, unless one was refused.
+pub record Calling : Type 0 where
+  pub max : ℕ
+  pub function : ℕ
+  pub is_commuting : Bool
+  pub arguments : Result (List Argument) Cause
+
+-- What is open: a sum, or a function.
+pub data Frame : Type 0 where
+  in_sum : Part → Frame
+  in_function : Calling → Frame
+
+-- a sum before its first product, and a function before its first argument
 abbrev pub fresh : ℕ → Part
 fresh max = record { max = max; sum = nothing; is_minus = false; factors = [] }
+
+abbrev pub calling : ℕ → ℕ → Bool → Calling
+calling max f is_commuting = record { max = max; function = f; is_commuting = is_commuting; arguments = Ok [] }
 
 -- the list of a sum, the product at hand being its last
 unfoldable pub closed : Part → Listing
 closed p = limited p.max (followed p.sum (signed p.is_minus (row p.max p.factors)))
+
+-- the list of what is open, where it ends
+abbrev pub list_of_frame : Frame → Listing
+list_of_frame (in_sum p) = closed p
+list_of_frame (in_function k) = function_list k.function k.is_commuting k.arguments
+
+abbrev pub limit_of : Frame → ℕ
+limit_of (in_sum p) = p.max
+limit_of (in_function k) = k.max
 
 -- a further product begins
 abbrev pub begun : Bool → Part → Part
@@ -35,48 +62,88 @@ linked links.Plus p = begun false p
 linked links.Minus p = begun true p
 linked links.Times p = p
 
+abbrev pub linked_frame : Link → Frame → Frame
+linked_frame link (in_sum p) = in_sum (linked link p)
+linked_frame link (in_function k) = in_function k
+
 -- a further factor: a list to a power
 abbrev pub with_factor : Listing → ℕ → Part → Part
 with_factor l power p = record { max = p.max; sum = p.sum; is_minus = p.is_minus; factors = p.factors ++ powers p.max l power ∷ [] }
 
--- what is being read: the innermost sum, and those around it from the inside
+-- a further argument
+abbrev pub argued : Result Argument Cause → Calling → Calling
+argued a k = record { max = k.max; function = k.function; is_commuting = k.is_commuting; arguments = with_argument k.arguments a }
+
+-- what is being read: the innermost frame, and those around it from the inside
 pub record Reading : Type 0 where
-  pub top : Part
-  pub outer : List Part
+  pub top : Frame
+  pub outer : List Frame
 
 -- before the first piece
 abbrev pub beginning : ℕ → Reading
-beginning max = record { top = fresh max; outer = [] }
+beginning max = record { top = in_sum (fresh max); outer = [] }
 
--- a factor that is one piece
+-- a factor that is one piece; between the arguments of a function it is passed over
+abbrev pub factor_into : Link → Listing → ℕ → Frame → Frame
+factor_into link l power (in_sum p) = in_sum (with_factor l power (linked link p))
+factor_into link l power (in_function k) = in_function k
+
 abbrev pub with_piece : Link → Listing → ℕ → Reading → Reading
-with_piece link l power r = record { top = with_factor l power (linked link r.top); outer = r.outer }
+with_piece link l power r = record { top = factor_into link l power r.top; outer = r.outer }
 
--- a parenthesis begins
-abbrev pub opening : Link → Reading → Reading
-opening link r = record { top = fresh r.top.max; outer = linked link r.top ∷ r.outer }
+-- an argument that is one piece; in a sum it is passed over
+abbrev pub argument_into : Argument → Frame → Frame
+argument_into a (in_sum p) = in_sum p
+argument_into a (in_function k) = in_function (argued (Ok a) k)
 
--- the end of a parenthesis; where none is open it is passed over
-abbrev pub closing : ℕ → Part → List Part → Reading
+abbrev pub with_argument_piece : Argument → Reading → Reading
+with_argument_piece a r = record { top = argument_into a r.top; outer = r.outer }
+
+-- a function begins where a factor may; else an argument does
+abbrev pub begun_function : ℕ → Bool → Frame → Frame
+begun_function f is_commuting (in_sum p) = in_function (calling p.max f is_commuting)
+begun_function f is_commuting (in_function k) = in_sum (fresh k.max)
+
+-- something begins within what is open
+abbrev pub opening : Link → Frame → Reading → Reading
+opening link inner r = record { top = inner; outer = linked_frame link r.top ∷ r.outer }
+
+-- something that was open within ends, with this list and to a power
+abbrev pub ended : Listing → ℕ → Frame → Frame
+ended l power (in_sum p) = in_sum (with_factor l power p)
+ended l power (in_function k) = in_function (argued (argument_of l) k)
+
+-- the end of what is innermost; where nothing is open around it, it is passed over
+abbrev pub closing : ℕ → Frame → List Frame → Reading
 closing power top [] = record { top = top; outer = [] }
-closing power top (p ∷ ps) = record { top = with_factor (closed top) power p; outer = ps }
+closing power top (f ∷ fs) = record { top = ended (list_of_frame top) power f; outer = fs }
 
 -- a piece is read
 unfoldable pub fed : List Stored → Reading → Piece → Reading
 fed all r (pieces.Number link value power) = with_piece link (number_list value power) 1 r
 fed all r (pieces.Symbol link symbol power) = with_piece link (symbol_list symbol power) 1 r
 fed all r (pieces.Stored link expression power) = with_piece link (record { terms = terms_of all expression; end = None }) power r
-fed all r (pieces.Open link) = opening link r
+fed all r (pieces.Imaginary link power) = with_piece link imaginary_list power r
+fed all r (pieces.Dot link p q power) = with_piece link (dot_list p q power) 1 r
+fed all r (pieces.Component link c power) = with_piece link (component_list c) power r
+fed all r (pieces.Delta link i j power) = with_piece link (delta_list i j) power r
+fed all r (pieces.Function link f is_commuting) = opening link (begun_function f is_commuting r.top) r
+fed all r (pieces.EndOfFunction power) = closing power r.top r.outer
+fed all r (pieces.Index i) = with_argument_piece (index i) r
+fed all r (pieces.Vector v) = with_argument_piece (vector v) r
+fed all r pieces.Argument = opening links.Times (in_sum (fresh (limit_of r.top))) r
+fed all r pieces.EndOfArgument = closing 1 r.top r.outer
+fed all r (pieces.Open link) = opening link (in_sum (fresh (limit_of r.top))) r
 fed all r (pieces.Close power) = closing power r.top r.outer
 
--- the outermost sum
-abbrev pub outermost : Part → List Part → Part
+-- the outermost frame
+abbrev pub outermost : Frame → List Frame → Frame
 outermost top [] = top
-outermost top (p ∷ ps) = outermost p ps
+outermost top (f ∷ fs) = outermost f fs
 
--- the list of the outermost sum once these pieces are read
+-- the list of the outermost frame once these pieces are read
 unfoldable pub read_from : List Stored → Reading → List Piece → Listing
-read_from all r [] = closed (outermost r.top r.outer)
+read_from all r [] = list_of_frame (outermost r.top r.outer)
 read_from all r (piece ∷ more) = read_from all (fed all r piece) more
 
 -- the list of these pieces
@@ -93,5 +160,15 @@ abbrev pub begins_product : Piece → Bool
 begins_product (pieces.Number link value power) = begins link
 begins_product (pieces.Symbol link symbol power) = begins link
 begins_product (pieces.Stored link expression power) = begins link
+begins_product (pieces.Imaginary link power) = begins link
+begins_product (pieces.Dot link p q power) = begins link
+begins_product (pieces.Component link c power) = begins link
+begins_product (pieces.Delta link i j power) = begins link
+begins_product (pieces.Function link f is_commuting) = begins link
+begins_product (pieces.EndOfFunction power) = false
+begins_product (pieces.Index i) = false
+begins_product (pieces.Vector v) = false
+begins_product pieces.Argument = false
+begins_product pieces.EndOfArgument = false
 begins_product (pieces.Open link) = begins link
 begins_product (pieces.Close power) = false

@@ -14,9 +14,13 @@ walk_whole max w = limited max (listing w.whole)
 abbrev pub walk_left : ℕ → Walk → Listing
 walk_left max w = limited (max - w.count) (rest_at w.place (listing w.whole))
 
+-- what is left of the pairing of a factor's terms
+abbrev pub opened_list : Listing → Step → Listing
+opened_list list s = times_by s.left (rest_at s.place list)
+
 -- a factor of a power of this list
 abbrev pub step_level : Listing → Step → Level
-step_level list s = record { count = s.count; list = list; opened = times_by s.left (rest_at s.place list) }
+step_level list s = record { count = s.count; list = list; opened = opened_list list s }
 
 abbrev pub step_waiting : Listing → ℕ → Waiting
 step_waiting list count = record { count = count; list = list }

@@ -1,19 +1,22 @@
-ghost use Rattle.std.specs.Prelude.{◌≡◌, ℕ, IfOk, OnOk};
+ghost use Rattle.std.specs.Prelude.{◌≡◌, ℕ, suc, IfOk, OnOk};
 ghost use Rattle.std.specs.Bool.{OnTrue};
 ghost use Rattle.form_expand.specs.Factors.{factor_left, factor_whole};
 ghost use Rattle.form_expand.specs.Kept.{listing};
 ghost use Rattle.form_expand.specs.Left.{times_by};
 ghost use Rattle.form_expand.specs.Listing.{nothing, powers};
 ghost use Rattle.form_expand.specs.Next.{Gives};
-ghost use Rattle.form_expand.specs.Reading.{list_of_pieces};
+ghost use Rattle.form_expand.specs.Readers.{list_of_calling};
+ghost use Rattle.form_expand.specs.Reading.{calling, list_of_pieces};
 
 use crate::ExpandError;
+use crate::function::Function;
 use crate::literal_sum::literal_sum;
 use crate::parenthesis::Parenthesis;
 use crate::power::Power;
 use crate::stored::Standing;
 use crate::walk::Walk;
 use crate::whole::Whole;
+use form_base::Id;
 use form_term::Monomial;
 use form_tree::Piece;
 use std::alloc::{AllocError, Global};
@@ -27,6 +30,8 @@ pub enum Factor<'a> {
     /// A power of such a list.
     Power(Box<Power<'a>>),
     Parenthesis(Box<Parenthesis<'a>>),
+    /// A function whose arguments aren't written out yet.
+    Function(Function<'a>),
 }
 
 impl<'a> Factor<'a> {
@@ -66,6 +71,25 @@ impl<'a> Factor<'a> {
         Ok(Factor::Parenthesis(Box::new(alloc, parenthesis)?))
     }
 
+    /// A function whose arguments have these pieces, to a power.
+    pub fn function(
+        alloc: Global,
+        stored: &'a Standing,
+        pieces: &'a [Piece],
+        function: Id,
+        is_commuting: bool,
+        power: u32,
+    ) -> Factor<'a>
+        ensures { (max : ℕ) → factor_whole max result
+            ≡ powers max (list_of_calling stored.now (calling max function is_commuting) pieces.now) power }
+    {
+        if power == 0 {
+            return Factor::Once(Walk::new(Whole::single(Monomial::unit(alloc))));
+        }
+        let function = Function::new(stored, pieces, function, is_commuting, power - 1);
+        Factor::Function(function)
+    }
+
     /// The sum of these pieces, from its first term on.
     pub fn alone(
         alloc: Global,
@@ -92,6 +116,7 @@ impl<'a> Factor<'a> {
             }
             Factor::Power(power) => power.restart(),
             Factor::Parenthesis(inner) => inner.restart(alloc),
+            Factor::Function(_) => Ok(()),
         }
     }
 
@@ -101,7 +126,7 @@ impl<'a> Factor<'a> {
     {
         match self {
             Factor::Once(walk) => walk.is_spent(),
-            Factor::Power(_) | Factor::Parenthesis(_) => false,
+            Factor::Power(_) | Factor::Parenthesis(_) | Factor::Function(_) => false,
         }
     }
 
@@ -121,6 +146,38 @@ impl<'a> Factor<'a> {
             Factor::Once(walk) => walk.next_times(alloc, limit, left),
             Factor::Power(power) => power.next_times(alloc, limit, left),
             Factor::Parenthesis(inner) => inner.next_times(alloc, left, deeper),
+            Factor::Function(function) => {
+                let later = function.later();
+                let whole = function.list(alloc, limit, deeper)?;
+                self.begin_list(alloc, limit, left, whole, later)
+            }
         }
+    }
+
+    /// Is a list to a power from here on, with so many factors behind the first, and gives a front of a product times the
+    /// next term.
+    fn begin_list(
+        &mut self,
+        alloc: Global,
+        limit: u64,
+        left: &Option<Monomial>,
+        whole: Whole<'a>,
+        later: u32,
+    ) -> Result<Option<Monomial>, ExpandError>
+        ensures next { Gives result (times_by left.now (powers limit (listing whole.entry) (suc later))) (times_by left.now (factor_left limit self.new)) }
+        ensures whole { OnOk result (factor_whole limit self.new ≡ powers limit (listing whole.entry) (suc later)) }
+    {
+        if later == 0 {
+            let mut walk = Walk::new(whole);
+            walk.restart();
+            let term = walk.next_times(alloc, limit, left)?;
+            *self = Factor::Once(walk);
+            return Ok(term);
+        }
+        let mut list = Power::new(alloc, whole, later);
+        list.restart()?;
+        let term = list.next_times(alloc, limit, left)?;
+        *self = Factor::Power(Box::new(alloc, list)?);
+        Ok(term)
     }
 }

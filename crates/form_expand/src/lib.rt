@@ -2,14 +2,15 @@
 //!
 //! A sum is read product by product (`stream`, `reader`). A product is paired from the left, deepest first, with one level
 //! for each factor (`product`), so that none of its terms is kept. A factor (`factor`) is a list that is there as a whole,
-//! or a power of one (`whole`, `walk`, `power`), as that of a short sum of numbers and symbols in parentheses is, which is
-//! read at once (`literal`, `literal_sum`); or any other sum in parentheses, which is made anew, in the same way, for each
-//! term of the front before it (`parenthesis`). So recursion goes as deep as parentheses stand within one another.
+//! or a power of one (`whole`, `walk`, `power`), or a sum in parentheses, which is made anew, in the same way, for each
+//! term of the front before it (`parenthesis`), or a function, whose arguments are written out and collected when it is first
+//! asked for (`function`). So recursion goes as deep as parentheses and functions stand within one another.
 #![tactic(auto)]
 
 mod error;
 mod expansion;
 mod factor;
+mod function;
 mod literal;
 mod literal_sum;
 mod number;
@@ -19,6 +20,7 @@ mod product;
 mod progress;
 mod reader;
 mod refusal;
+mod single;
 mod stored;
 mod stream;
 mod times;

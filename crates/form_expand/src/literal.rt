@@ -28,7 +28,7 @@ impl Literal {
         match piece {
             Piece::Number { link, value, power } => {
                 self.link(*link);
-                Ok(self.take_number(*value, *power))
+                self.take_number(alloc, *value, *power)
             }
             Piece::Symbol {
                 link,
@@ -38,7 +38,7 @@ impl Literal {
                 self.link(*link);
                 self.take_symbol(alloc, *symbol, *power)
             }
-            Piece::Stored { .. } | Piece::Open { .. } | Piece::Close { .. } => Ok(false),
+            _ => Ok(false),
         }
     }
 
@@ -62,15 +62,15 @@ impl Literal {
         if is_minus { term.negated() } else { term }
     }
 
-    fn take_number(&mut self, value: u128, power: i32) -> bool
-        ensures times { result ≡ true → IsTimes (number_list value power) self.old.term self.new.term }
+    fn take_number(&mut self, alloc: Global, value: u128, power: i32) -> Result<bool, AllocError>
+        ensures times { result ≡ Ok true → IsTimes (number_list value power) self.old.term self.new.term }
         ensures sign { self.new.is_minus ≡ self.old.is_minus }
     {
         laws::single_factors();
         let Some(number) = number_alone(value, power) else {
-            return false;
+            return Ok(false);
         };
-        multiply_by_number(&mut self.term, number).is_ok()
+        made(multiply_by_number(alloc, &mut self.term, number))
     }
 
     fn take_symbol(&mut self, alloc: Global, symbol: Id, power: i32) -> Result<bool, AllocError>
@@ -85,11 +85,18 @@ impl Literal {
             symbol,
             exponent: power,
         };
-        match multiply_by_power(alloc, &mut self.term, power) {
-            Ok(()) => Ok(true),
-            Err(ProductError::Refused(_)) => Ok(false),
-            Err(ProductError::Memory) => Err(AllocError),
-        }
+        made(multiply_by_power(alloc, &mut self.term, power))
+    }
+}
+
+/// Whether there is a product, which is neither refused nor 0.
+fn made(answer: Result<bool, ProductError>) -> Result<bool, AllocError>
+    ensures { result ≡ Ok true → answer ≡ Ok true }
+{
+    match answer {
+        Ok(is_made) => Ok(is_made),
+        Err(ProductError::Refused(_)) => Ok(false),
+        Err(ProductError::Memory) => Err(AllocError),
     }
 }
 

@@ -54,7 +54,7 @@ fn products(pieces: &[Piece], most: usize) -> Option<usize>
                     count += 1;
                 }
             }
-            Piece::Stored { .. } | Piece::Open { .. } | Piece::Close { .. } => return None,
+            _ => return None,
         }
     }
     Some(count)

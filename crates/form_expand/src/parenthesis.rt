@@ -3,13 +3,14 @@ ghost use Rattle.form_expand.specs.declared.parenthesis.Mode.TheVariants.{Keeps}
 ghost use Rattle.form_expand.specs.Modes.{is_kept_mode};
 ghost use Rattle.form_expand.specs.Left.{times_by};
 ghost use Rattle.form_expand.specs.Listing.{powers};
-ghost use Rattle.form_expand.specs.Next.{Gives};
+ghost use Rattle.form_expand.specs.Next.{Gives, Goes};
 ghost use Rattle.form_expand.specs.Reading.{list_of_pieces};
 ghost use Rattle.form_expand.specs.Streams.{stream_left};
 ghost use Rattle.form_expand.specs.Walks.{terms_left};
 
 use crate::ExpandError;
 use crate::product::Product;
+use crate::progress::Progress;
 use crate::stored::Standing;
 use crate::stream::Stream;
 use crate::times::times;
@@ -134,7 +135,7 @@ impl<'a> Parenthesis<'a> {
         Ok(())
     }
 
-    /// A front of a product times the next term. `deeper` counts down with each parenthesis.
+    /// A front of a product times the next term with which it isn't 0. `deeper` counts down with each parenthesis.
     #[cycle(taking)]
     pub fn next_times(
         &mut self,
@@ -143,6 +144,27 @@ impl<'a> Parenthesis<'a> {
         deeper: u64,
     ) -> Result<Option<Monomial>, ExpandError>
         ensures next { Gives result (times_by left.now self.old.left) (times_by left.now self.new.left) }
+        ensures whole { OnOk result (self.new.whole ≡ self.old.whole) }
+    {
+        for _ in 0..u64::MAX {
+            match self.step_times(alloc, left, deeper)? {
+                Progress::Moves => {}
+                Progress::Gives(term) => return Ok(Some(term)),
+                Progress::Done => return Ok(None),
+            }
+        }
+        Err(ExpandError::Memory)
+    }
+
+    /// A front of a product times the next term.
+    #[cycle(taking)]
+    fn step_times(
+        &mut self,
+        alloc: Global,
+        left: &Option<Monomial>,
+        deeper: u64,
+    ) -> Result<Progress, ExpandError>
+        ensures next { Goes result (times_by left.now self.old.left) (times_by left.now self.new.left) }
         ensures whole { OnOk result (self.new.whole ≡ self.old.whole) }
     {
         if self.mode.is_kept() {
@@ -158,17 +180,17 @@ impl<'a> Parenthesis<'a> {
                 self.place = self.kept.len();
                 self.mode = Mode::Kept;
             }
-            return Ok(None);
+            return Ok(Progress::Done);
         };
         if left.is_none() {
-            return Ok(Some(term));
+            return Ok(Progress::Gives(term));
         }
         let made = times(alloc, left, &term)?;
         if keeps {
             self.kept.push(term)?;
             self.mode = Mode::Keeps;
         }
-        Ok(Some(made))
+        Ok(Progress::of(made))
     }
 }
 
@@ -178,15 +200,15 @@ fn walk(
     terms: &[Monomial],
     place: &mut usize,
     left: &Option<Monomial>,
-) -> Result<Option<Monomial>, ExpandError>
-    ensures { Gives result (times_by left.now (terms_left place.old terms.now)) (times_by left.now (terms_left place.new terms.now)) }
+) -> Result<Progress, ExpandError>
+    ensures { Goes result (times_by left.now (terms_left place.old terms.now)) (times_by left.now (terms_left place.new terms.now)) }
 {
     let Some(term) = terms.get(*place) else {
-        return Ok(None);
+        return Ok(Progress::Done);
     };
     let made = times(alloc, left, term)?;
     *place += 1;
-    Ok(Some(made))
+    Ok(Progress::of(made))
 }
 
 /// The list of a sum in parentheses to a power, from its first term on.

@@ -2,7 +2,7 @@ ghost use Rattle.std.specs.Prelude.{◌≡◌, ◌++◌, ℕ, Some, None, OnOk, 
 ghost use Rattle.form_expand.specs.Kept.{listing};
 ghost use Rattle.form_expand.specs.Left.{times_by};
 ghost use Rattle.form_expand.specs.Next.{Gives, Goes, Takes};
-ghost use Rattle.form_expand.specs.Walks.{step_level, power_left, power_whole};
+ghost use Rattle.form_expand.specs.Walks.{opened_list, step_level, power_left, power_whole};
 
 use crate::ExpandError;
 use crate::progress::Progress;
@@ -24,7 +24,7 @@ pub struct Step {
 }
 
 impl Step {
-    /// The product with the next term.
+    /// The product with the next term with which it isn't 0.
     fn take(
         &mut self,
         alloc: Global,
@@ -34,16 +34,49 @@ impl Step {
         ensures next { Takes limit result (step_level (listing whole.old) self.old) (step_level (listing whole.new) self.new) }
         ensures whole { OnOk result (listing whole.new ≡ listing whole.old) }
     {
-        let Some(term) = whole.at(self.place) else {
-            return whole.ended();
+        let Some(term) = self.next_product(alloc, whole)? else {
+            return Ok(None);
         };
-        let term = times(alloc, &self.left, term)?;
         if self.count >= limit {
             return Err(ExpandError::Refused(Cause::ExpandLimit));
         }
-        self.place += 1;
         self.count += 1;
         Ok(Some(term))
+    }
+
+    fn next_product(
+        &mut self,
+        alloc: Global,
+        whole: &mut Whole,
+    ) -> Result<Option<Monomial>, ExpandError>
+        ensures next { Gives result (opened_list (listing whole.old) self.old) (opened_list (listing whole.new) self.new) }
+        ensures left { self.new.left ≡ self.old.left }
+        ensures count { self.new.count ≡ self.old.count }
+        ensures whole { OnOk result (listing whole.new ≡ listing whole.old) }
+    {
+        for _ in 0..u64::MAX {
+            match self.next_times(alloc, whole)? {
+                Progress::Moves => {}
+                Progress::Gives(term) => return Ok(Some(term)),
+                Progress::Done => return Ok(None),
+            }
+        }
+        Err(ExpandError::Memory)
+    }
+
+    /// The product with the next term.
+    fn next_times(&mut self, alloc: Global, whole: &mut Whole) -> Result<Progress, ExpandError>
+        ensures next { Goes result (opened_list (listing whole.old) self.old) (opened_list (listing whole.new) self.new) }
+        ensures left { self.new.left ≡ self.old.left }
+        ensures count { self.new.count ≡ self.old.count }
+        ensures whole { OnOk result (listing whole.new ≡ listing whole.old) }
+    {
+        let Some(term) = whole.at(self.place) else {
+            return whole.ended();
+        };
+        let made = times(alloc, &self.left, term)?;
+        self.place += 1;
+        Ok(Progress::of(made))
     }
 }
 
@@ -92,7 +125,7 @@ impl<'a> Power<'a> {
         Ok(())
     }
 
-    /// A front of a product times the next term.
+    /// A front of a product times the next term with which it isn't 0.
     pub fn next_times(
         &mut self,
         alloc: Global,
@@ -102,10 +135,31 @@ impl<'a> Power<'a> {
         ensures next { Gives result (times_by left.now (power_left limit self.old)) (times_by left.now (power_left limit self.new)) }
         ensures whole { OnOk result (power_whole limit self.new ≡ power_whole limit self.old) }
     {
+        for _ in 0..u64::MAX {
+            match self.step_times(alloc, limit, left)? {
+                Progress::Moves => {}
+                Progress::Gives(term) => return Ok(Some(term)),
+                Progress::Done => return Ok(None),
+            }
+        }
+        Err(ExpandError::Memory)
+    }
+
+    /// A front of a product times the next term.
+    fn step_times(
+        &mut self,
+        alloc: Global,
+        limit: u64,
+        left: &Option<Monomial>,
+    ) -> Result<Progress, ExpandError>
+        ensures next { Goes result (times_by left.now (power_left limit self.old)) (times_by left.now (power_left limit self.new)) }
+        ensures whole { OnOk result (power_whole limit self.new ≡ power_whole limit self.old) }
+    {
         let Some(term) = self.next(alloc, limit)? else {
-            return Ok(None);
+            return Ok(Progress::Done);
         };
-        Ok(Some(times_owned(alloc, left, term)?))
+        let made = times_owned(alloc, left, term)?;
+        Ok(Progress::of(made))
     }
 
     /// The next term.

@@ -1,13 +1,18 @@
-ghost use Rattle.std.specs.Prelude.{◌≡◌, ◌≤◌, ◌<◌, ◌+◌, ◌^◌, IfOk, length, map};
+ghost use Rattle.std.specs.Prelude.{◌≡◌, ◌≤◌, ◌<◌, ◌+◌, ◌^◌, None, IfOk, length, map};
 ghost use Rattle.form_expand.specs.Closings.{closing_at, deep_behind, power_at_end};
 ghost use Rattle.form_expand.specs.Factors.{factor_whole};
+ghost use Rattle.form_expand.specs.Kept.{listing};
+ghost use Rattle.form_expand.specs.Pieces.{list_of_piece, listed_alone};
 ghost use Rattle.form_expand.specs.Reading.{begins_product};
-ghost use Rattle.form_expand.specs.Readers.{IsRead, IsReadFactor, IsReadOn, IsReadParenthesis, is_minus_piece};
+ghost use Rattle.form_expand.specs.Stored.{terms_of};
+ghost use Rattle.form_expand.specs.Readers.{IsRead, IsReadFactor, IsReadFunction, IsReadOn, IsReadParenthesis, is_minus_piece};
 
 use crate::factor::Factor;
 use crate::number::{number_list, symbol_list};
+use crate::single::{component_list, delta_list, dot_list, imaginary_list};
 use crate::stored::Standing;
 use crate::whole::{Kept, Whole};
+use form_base::Id;
 use form_tree::{Link, Piece};
 use std::alloc::{AllocError, Global};
 
@@ -54,8 +59,18 @@ fn is_subtracted(piece: &Piece) -> bool
         Piece::Number { link, .. }
         | Piece::Symbol { link, .. }
         | Piece::Stored { link, .. }
+        | Piece::Imaginary { link, .. }
+        | Piece::Dot { link, .. }
+        | Piece::Component { link, .. }
+        | Piece::Delta { link, .. }
+        | Piece::Function { link, .. }
         | Piece::Open { link } => *link == Link::Minus,
-        Piece::Close { .. } => false,
+        Piece::EndOfFunction { .. }
+        | Piece::Index(_)
+        | Piece::Vector(_)
+        | Piece::Argument
+        | Piece::EndOfArgument
+        | Piece::Close { .. } => false,
     }
 }
 
@@ -67,8 +82,18 @@ pub fn begins(piece: &Piece) -> bool
         Piece::Number { link, .. }
         | Piece::Symbol { link, .. }
         | Piece::Stored { link, .. }
+        | Piece::Imaginary { link, .. }
+        | Piece::Dot { link, .. }
+        | Piece::Component { link, .. }
+        | Piece::Delta { link, .. }
+        | Piece::Function { link, .. }
         | Piece::Open { link } => *link != Link::Times,
-        Piece::Close { .. } => false,
+        Piece::EndOfFunction { .. }
+        | Piece::Index(_)
+        | Piece::Vector(_)
+        | Piece::Argument
+        | Piece::EndOfArgument
+        | Piece::Close { .. } => false,
     }
 }
 
@@ -94,8 +119,8 @@ fn read_on<'a>(
     Ok(rest)
 }
 
-/// Reads the factor that begins with this piece, and answers the pieces behind it. There is none where the piece ends a
-/// parenthesis that isn't open, or begins one that isn't ended.
+/// Reads the factor that begins with this piece, and answers the pieces behind it. There is none where the piece ends
+/// something that isn't open, begins something that isn't ended, or is an argument.
 fn read_factor<'a>(
     alloc: Global,
     piece: &Piece,
@@ -109,31 +134,76 @@ fn read_factor<'a>(
         (map (factor_whole limit) factors.old.items) (map (factor_whole limit) factors.new.items) rest.now) }
     ensures shorter { IfOk result (λ rest. length rest.now ≤ length more.now) }
 {
+    if let Some((whole, power)) = piece_list(alloc, piece, stored)? {
+        factors.push(Factor::new(alloc, whole, power)?)?;
+        return Ok(more);
+    }
     match piece {
-        Piece::Number { value, power, .. } => {
-            let whole = number_list(alloc, *value, *power);
-            factors.push(Factor::new(alloc, whole, 1)?)?;
-            Ok(more)
-        }
-        Piece::Symbol { symbol, power, .. } => {
-            let whole = symbol_list(alloc, *symbol, *power)?;
-            factors.push(Factor::new(alloc, whole, 1)?)?;
-            Ok(more)
-        }
+        Piece::Open { .. } => read_parenthesis(alloc, more, stored, limit, most, factors),
+        Piece::Argument => read_parenthesis(alloc, more, stored, limit, most, factors),
+        Piece::Function {
+            function,
+            is_commuting,
+            ..
+        } => read_function(
+            alloc,
+            more,
+            stored,
+            limit,
+            *function,
+            *is_commuting,
+            factors,
+        ),
+        _ => Ok(more),
+    }
+}
+
+/// The list of a factor that is one piece, and its power.
+fn piece_list<'a>(
+    alloc: Global,
+    piece: &Piece,
+    stored: &'a Standing,
+) -> Result<Option<(Whole<'a>, u32)>, AllocError>
+    ensures { IfOk result (λ found. listed_alone found ≡ list_of_piece stored.now piece.now) }
+{
+    let found = match piece {
+        Piece::Number { value, power, .. } => (number_list(alloc, *value, *power), 1),
+        Piece::Symbol { symbol, power, .. } => (symbol_list(alloc, *symbol, *power)?, 1),
         Piece::Stored {
             expression,
             power,
             ..
-        } => {
-            let whole = Whole {
-                kept: Kept::Stored(stored.terms_of(*expression)),
-                end: None,
-            };
-            factors.push(Factor::new(alloc, whole, *power)?)?;
-            Ok(more)
-        }
-        Piece::Open { .. } => read_parenthesis(alloc, more, stored, limit, most, factors),
-        Piece::Close { .. } => Ok(more),
+        } => (stored_list(stored, *expression), *power),
+        Piece::Imaginary { power, .. } => (imaginary_list(alloc)?, *power),
+        Piece::Dot {
+            left,
+            right,
+            power,
+            ..
+        } => (dot_list(alloc, *left, *right, *power)?, 1),
+        Piece::Component {
+            component,
+            power,
+            ..
+        } => (component_list(alloc, *component)?, *power),
+        Piece::Delta {
+            first,
+            second,
+            power,
+            ..
+        } => (delta_list(alloc, *first, *second)?, *power),
+        _ => return Ok(None),
+    };
+    Ok(Some(found))
+}
+
+/// The terms of an expression.
+fn stored_list<'a>(stored: &'a Standing, expression: Id) -> Whole<'a>
+    ensures { listing result ≡ record { terms = terms_of stored.now expression; end = None } }
+{
+    Whole {
+        kept: Kept::Stored(stored.terms_of(expression)),
+        end: None,
     }
 }
 
@@ -159,8 +229,32 @@ fn read_parenthesis<'a>(
     Ok(rest)
 }
 
-/// How many pieces there are before the one that ends the parenthesis that is open before them, and its power.
-fn closing(pieces: &[Piece]) -> Option<(usize, u32)>
+/// Reads a function behind its first piece, and answers the pieces behind it.
+fn read_function<'a>(
+    alloc: Global,
+    pieces: &'a [Piece],
+    stored: &'a Standing,
+    limit: u64,
+    function: Id,
+    is_commuting: bool,
+    factors: &mut Vec<Factor<'a>>,
+) -> Result<&'a [Piece], AllocError>
+    ensures read { IfOk result (λ rest. IsReadFunction function is_commuting limit stored.now pieces.now
+        (map (factor_whole limit) factors.old.items) (map (factor_whole limit) factors.new.items) rest.now) }
+    ensures shorter { IfOk result (λ rest. length rest.now ≤ length pieces.now) }
+{
+    let Some((len, power)) = closing(pieces) else {
+        return Ok(&[]);
+    };
+    let (within, behind) = pieces.split_at(len);
+    let factor = Factor::function(alloc, stored, within, function, is_commuting, power);
+    factors.push(factor)?;
+    let (_, rest) = behind.split_at(1);
+    Ok(rest)
+}
+
+/// How many pieces there are before the one that ends what is open before them, and its power.
+pub fn closing(pieces: &[Piece]) -> Option<(usize, u32)>
     ensures { result ≡ closing_at 0 0 pieces.now }
 {
     let mut depth = 0;
@@ -173,12 +267,13 @@ fn closing(pieces: &[Piece]) -> Option<(usize, u32)>
     None
 }
 
-/// The power where this piece ends the parenthesis within which so many are open.
+/// The power where this piece ends what is open, within which so many are open.
 fn ended_by(depth: usize, piece: &Piece) -> Option<u32>
     ensures { result ≡ power_at_end depth piece.now }
 {
     match piece {
-        Piece::Close { power } if depth == 0 => Some(*power),
+        Piece::Close { power } | Piece::EndOfFunction { power } if depth == 0 => Some(*power),
+        Piece::EndOfArgument if depth == 0 => Some(1),
         _ => None,
     }
 }
@@ -189,8 +284,10 @@ fn depth_behind(depth: usize, piece: &Piece) -> usize
     ensures { result ≡ deep_behind depth piece.now }
 {
     match piece {
-        Piece::Open { .. } => depth + 1,
-        Piece::Close { .. } => depth.saturating_sub(1),
-        Piece::Number { .. } | Piece::Symbol { .. } | Piece::Stored { .. } => depth,
+        Piece::Function { .. } | Piece::Argument | Piece::Open { .. } => depth + 1,
+        Piece::EndOfFunction { .. } | Piece::EndOfArgument | Piece::Close { .. } => {
+            depth.saturating_sub(1)
+        }
+        _ => depth,
     }
 }

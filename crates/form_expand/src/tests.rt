@@ -3,7 +3,7 @@
 use crate::{ExpandError, Expansion, Standing, Stored, Terms, expand_tree};
 use form_base::{Cause, Id};
 use form_frac::Frac;
-use form_term::{Monomial, Term};
+use form_term::{Index, Monomial, Term};
 use form_tree::{Link, Piece};
 use std::alloc::{AllocError, Global};
 use std::test::Fail;
@@ -17,22 +17,52 @@ fn symbol(link: Link, position: u32, power: i32) -> Piece {
     }
 }
 
-/// The next term's powers, each as its symbol's position and its exponent; none where no term is given.
-fn next(alloc: Global, list: &mut Expansion) -> Result<Option<Vec<(u32, i32)>>, AllocError> {
-    let Ok(Some(term)) = list.next(alloc) else {
-        return Ok(None);
-    };
+/// A term's powers, each as its symbol's position and its exponent.
+fn powers_of(alloc: Global, term: &Term) -> Result<Vec<(u32, i32)>, AllocError> {
     let mut powers = Vec::new(alloc);
-    for power in term.term.powers() {
+    for power in term.powers() {
         powers.push((power.symbol.position(), power.exponent))?;
     }
-    Ok(Some(powers))
+    Ok(powers)
 }
 
-/// Whether these are the next term's powers.
+/// Whether the next term's powers are these.
 fn gives(alloc: Global, list: &mut Expansion, powers: &[(u32, i32)]) -> Result<bool, AllocError> {
-    let next = next(alloc, list)?;
-    Ok(next.is_some_and(|given| given.as_slice() == powers))
+    let Ok(Some(item)) = list.next(alloc) else {
+        return Ok(false);
+    };
+    Ok(powers_of(alloc, &item.term)?.as_slice() == powers)
+}
+
+/// Whether the next terms' powers are these.
+fn gives_all(
+    alloc: Global,
+    list: &mut Expansion,
+    terms: &[&[(u32, i32)]],
+) -> Result<bool, AllocError> {
+    for powers in terms {
+        if !gives(alloc, list, powers)? {
+            return Ok(false);
+        }
+    }
+    Ok(true)
+}
+
+/// Whether no term follows.
+fn ends(alloc: Global, list: &mut Expansion) -> bool {
+    matches!(list.next(alloc), Ok(None))
+}
+
+/// Whether these powers are all that the pieces of a sum give.
+fn is_list(
+    alloc: Global,
+    pieces: &[Piece],
+    limit: u64,
+    terms: &[&[(u32, i32)]],
+) -> Result<bool, AllocError> {
+    let none = Standing::from_vec(Vec::new(alloc));
+    let mut list = expand_tree(alloc, pieces, limit, &none);
+    Ok(gives_all(alloc, &mut list, terms)? && ends(alloc, &mut list))
 }
 
 /// (x+y)^2, x and y being the symbols 0 and 1.
@@ -50,13 +80,8 @@ fn square(alloc: Global) -> Result<Vec<Piece>, AllocError> {
 fn a_square_is_written_out_in_order(rt: HostRuntime) -> Result<(), Fail> {
     let alloc = rt.alloc();
     let pieces = square(alloc)?;
-    let none = Standing::from_vec(Vec::new(alloc));
-    let mut list = expand_tree(alloc, &pieces, 4, &none);
-    assert!(rt; gives(alloc, &mut list, &[(0, 2)])?);
-    assert!(rt; gives(alloc, &mut list, &[(0, 1), (1, 1)])?);
-    assert!(rt; gives(alloc, &mut list, &[(0, 1), (1, 1)])?);
-    assert!(rt; gives(alloc, &mut list, &[(1, 2)])?);
-    assert!(rt; next(alloc, &mut list)?.is_none());
+    let terms: [&[(u32, i32)]; 4] = [&[(0, 2)], &[(0, 1), (1, 1)], &[(0, 1), (1, 1)], &[(1, 2)]];
+    assert!(rt; is_list(alloc, &pieces, 4, &terms)?);
     Ok(())
 }
 
@@ -84,17 +109,20 @@ fn nested(alloc: Global) -> Result<Vec<Piece>, AllocError> {
 fn parentheses_stand_within_parentheses(rt: HostRuntime) -> Result<(), Fail> {
     let alloc = rt.alloc();
     let pieces = nested(alloc)?;
-    let none = Standing::from_vec(Vec::new(alloc));
-    let mut list = expand_tree(alloc, &pieces, 3, &none);
-    assert!(rt; gives(alloc, &mut list, &[(0, 2), (1, 1)])?);
-    assert!(rt; gives(alloc, &mut list, &[(0, 1), (1, 2)])?);
-    assert!(rt; gives(alloc, &mut list, &[(0, 1)])?);
-    assert!(rt; next(alloc, &mut list)?.is_none());
+    let terms: [&[(u32, i32)]; 3] = [&[(0, 2), (1, 1)], &[(0, 1), (1, 2)], &[(0, 1)]];
+    assert!(rt; is_list(alloc, &pieces, 3, &terms)?);
     Ok(())
 }
 
-/// Whether the list is refused here for its length.
-fn is_too_long(alloc: Global, list: &mut Expansion) -> bool {
+/// Whether the list that these pieces give is refused for its length behind so many terms.
+fn is_too_long(alloc: Global, pieces: &[Piece], limit: u64) -> bool {
+    let none = Standing::from_vec(Vec::new(alloc));
+    let mut list = expand_tree(alloc, pieces, limit, &none);
+    for _ in 0..limit {
+        if !matches!(list.next(alloc), Ok(Some(_))) {
+            return false;
+        }
+    }
     matches!(
         list.next(alloc),
         Err(ExpandError::Refused(Cause::ExpandLimit))
@@ -105,12 +133,7 @@ fn is_too_long(alloc: Global, list: &mut Expansion) -> bool {
 fn a_list_ends_behind_its_limit(rt: HostRuntime) -> Result<(), Fail> {
     let alloc = rt.alloc();
     let pieces = square(alloc)?;
-    let none = Standing::from_vec(Vec::new(alloc));
-    let mut list = expand_tree(alloc, &pieces, 3, &none);
-    assert!(rt; gives(alloc, &mut list, &[(0, 2)])?);
-    assert!(rt; gives(alloc, &mut list, &[(0, 1), (1, 1)])?);
-    assert!(rt; gives(alloc, &mut list, &[(0, 1), (1, 1)])?);
-    assert!(rt; is_too_long(alloc, &mut list));
+    assert!(rt; is_too_long(alloc, &pieces, 3));
     Ok(())
 }
 
@@ -140,17 +163,8 @@ fn difference(alloc: Global) -> Result<Vec<Piece>, AllocError> {
     Vec::from_slice(alloc, &pieces)
 }
 
-/// The next term's coefficient, 0 where no term is given.
-fn coefficient(alloc: Global, list: &mut Expansion) -> Frac {
-    match list.next(alloc) {
-        Ok(Some(term)) => term.coefficient,
-        _ => Frac::zero(),
-    }
-}
-
-#[test]
-fn numbers_and_expressions_stand_in_their_places(rt: HostRuntime) -> Result<(), Fail> {
-    let alloc = rt.alloc();
+/// The expression 2, which is 5*x^4.
+fn standing(alloc: Global) -> Result<Standing, AllocError> {
     let mut terms = Vec::new(alloc);
     terms.push(Monomial {
         coefficient: Frac::whole(5),
@@ -161,12 +175,87 @@ fn numbers_and_expressions_stand_in_their_places(rt: HostRuntime) -> Result<(), 
         expression: Id::new(2),
         terms: Terms::from_vec(terms),
     })?;
-    let stored = Standing::from_vec(stored);
+    Ok(Standing::from_vec(stored))
+}
+
+/// The next term's coefficient, 0 where no term is given.
+fn coefficient(alloc: Global, list: &mut Expansion) -> Frac {
+    match list.next(alloc) {
+        Ok(Some(item)) => item.coefficient,
+        _ => Frac::zero(),
+    }
+}
+
+#[test]
+fn numbers_and_expressions_stand_in_their_places(rt: HostRuntime) -> Result<(), Fail> {
+    let alloc = rt.alloc();
+    let standing = standing(alloc)?;
     let pieces = difference(alloc)?;
-    let mut list = expand_tree(alloc, &pieces, 10, &stored);
-    assert!(rt; Ok(coefficient(alloc, &mut list)) == Frac::make(1, 2));
-    assert!(rt; coefficient(alloc, &mut list) == Frac::whole(-15));
-    assert!(rt; coefficient(alloc, &mut list) == Frac::whole(-3));
-    assert!(rt; next(alloc, &mut list)?.is_none());
+    let mut list = expand_tree(alloc, &pieces, 10, &standing);
+    let first = coefficient(alloc, &mut list);
+    let second = coefficient(alloc, &mut list);
+    let third = coefficient(alloc, &mut list);
+    assert!(rt; Ok(first) == Frac::make(1, 2));
+    assert!(rt; second == Frac::whole(-15));
+    assert!(rt; third == Frac::whole(-3));
+    Ok(())
+}
+
+/// f(x+x)^2, f being the name 3.
+fn called(alloc: Global) -> Result<Vec<Piece>, AllocError> {
+    let pieces = [
+        Piece::Function {
+            link: Link::Plus,
+            function: Id::new(3),
+            is_commuting: true,
+        },
+        Piece::Argument,
+        symbol(Link::Plus, 0, 1),
+        symbol(Link::Plus, 0, 1),
+        Piece::EndOfArgument,
+        Piece::EndOfFunction { power: 2 },
+    ];
+    Vec::from_slice(alloc, &pieces)
+}
+
+/// How many commuting functions the first term of a list has, and its size.
+fn sizes(alloc: Global, pieces: &[Piece]) -> (usize, usize) {
+    let none = Standing::from_vec(Vec::new(alloc));
+    let mut list = expand_tree(alloc, pieces, 9, &none);
+    match list.next(alloc) {
+        Ok(Some(item)) => (item.term.functions().len(), item.term.size()),
+        _ => (0, 0),
+    }
+}
+
+#[test]
+fn arguments_are_collected(rt: HostRuntime) -> Result<(), Fail> {
+    let alloc = rt.alloc();
+    let pieces = called(alloc)?;
+    assert_eq!(rt; sizes(alloc, &pieces), (2, 8));
+    Ok(())
+}
+
+/// d_(1,2)*x + y.
+fn no_delta(alloc: Global) -> Result<Vec<Piece>, AllocError> {
+    let pieces = [
+        Piece::Delta {
+            link: Link::Plus,
+            first: Index::Fixed(1),
+            second: Index::Fixed(2),
+            power: 1,
+        },
+        symbol(Link::Times, 0, 1),
+        symbol(Link::Plus, 1, 1),
+    ];
+    Vec::from_slice(alloc, &pieces)
+}
+
+#[test]
+fn a_product_that_is_zero_gives_no_term(rt: HostRuntime) -> Result<(), Fail> {
+    let alloc = rt.alloc();
+    let pieces = no_delta(alloc)?;
+    let terms: [&[(u32, i32)]; 1] = [&[(1, 1)]];
+    assert!(rt; is_list(alloc, &pieces, 1, &terms)?);
     Ok(())
 }

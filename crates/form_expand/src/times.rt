@@ -6,20 +6,20 @@ use form_normal::product;
 use form_term::Monomial;
 use std::alloc::Global;
 
-/// A front of a product, none where it has no factor yet, times a term.
+/// A front of a product, none where it has no factor yet, times a term; none where the product is 0.
 pub fn times(
     alloc: Global,
     left: &Option<Monomial>,
     term: &Monomial,
-) -> Result<Monomial, ExpandError>
+) -> Result<Option<Monomial>, ExpandError>
     ensures { IsMade result (product_by left.now term.now) }
 {
     match left {
         Some(left) => Ok(product(alloc, left, term)?),
-        None => Ok(Monomial {
+        None => Ok(Some(Monomial {
             coefficient: term.coefficient,
             term: term.term.clone()?,
-        }),
+        })),
     }
 }
 
@@ -28,11 +28,11 @@ pub fn times_owned(
     alloc: Global,
     left: &Option<Monomial>,
     term: Monomial,
-) -> Result<Monomial, ExpandError>
+) -> Result<Option<Monomial>, ExpandError>
     ensures { IsMade result (product_by left.now term) }
 {
     match left {
         Some(left) => Ok(product(alloc, left, &term)?),
-        None => Ok(term),
+        None => Ok(Some(term)),
     }
 }

@@ -1,184 +1,359 @@
 -- A lawful right side is read whole, and its pieces are kept.
-use Rattle.std.proofs.Common.{◌≡◌, ℕ, ◌+◌, ◌-◌, ◌<◌, Bool, true, false, List, [], ◌∷◌, ◌++◌, Option, Some, None, option_map, refl, sym, ap, ◌∙◌, append_assoc, arith}
-use Rattle.std.specs.Prelude.{is_some}
+use Rattle.std.proofs.Common.{◌≡◌, ℕ, suc, ◌<◌, Bool, true, false, List, [], ◌∷◌, ◌++◌, length, Option, Some, None, refl, sym, ap, subst, ◌∙◌, append_assoc, add-one}
 use Rattle.std.proofs.lemmas.Bool.{lt-ltb}
 use Rattle.std.proofs.lemmas.List.{append-nil}
+use Rattle.form_base.specs.declared.spot.Spot.{Spot}
 use Rattle.form_ast.specs.declared.expr.Sign.{Sign}
 use Rattle.form_ast.specs.declared.expr.Sign.TheVariants as signs
 use Rattle.form_ast.specs.declared.expr.Link.{Link}
 use Rattle.form_ast.specs.declared.expr.Link.TheVariants as links
 use Rattle.form_ast.specs.declared.expr.Number.{Number}
+use Rattle.form_ast.specs.declared.expr.Named.{Named}
+use Rattle.form_ast.specs.declared.expr.Named.TheVariants as names
+use Rattle.form_ast.specs.declared.expr.Entry.{Entry}
+use Rattle.form_ast.specs.declared.expr.Entry.TheVariants as entries
 use Rattle.form_ast.specs.declared.expr.Power.{Power}
 use Rattle.form_ast.specs.declared.expr.Piece.{Piece}
 use Rattle.form_ast.specs.declared.expr.Piece.TheVariants as pieces
-use Rattle.form_ast.specs.Syntax.{Sum, first, more, Product, one, times, over, Factor, factor, number, name, parenthesis, link_of, pieces_of_sum, pieces_of_product, pieces_of_factor}
-use Rattle.form_ast.specs.Lawful.{most_open, IsNotNegative, IsLawfulPower, IsDivisor, IsLawful, IsLawfulSum, IsLawfulProduct, IsLawfulFactor}
+use Rattle.form_ast.specs.Syntax.{Sum, first, more, Product, one, times, over, Factor, factor, Base, number, name, dot, delta, empty_call, call, parenthesis, Arguments, argument, further, link_of, pieces_of_sum, pieces_of_product, pieces_of_factor, pieces_of_arguments}
+use Rattle.form_ast.specs.Lawful.{most_open, IsDivisor, IsLawful, IsLawfulSum, IsLawfulProduct, IsLawfulFactor, IsLawfulArguments}
+use Rattle.form_grammar.specs.declared.brackets.Bracket.{Bracket}
+use Rattle.form_grammar.specs.declared.brackets.Bracket.TheVariants.{Parenthesis}
+use Rattle.form_grammar.specs.declared.brackets.Bracket.TheVariants as brackets
 use Rattle.form_grammar.specs.declared.terminal.Terminal as terminals
 use Rattle.form_grammar.specs.declared.terminal.Terminal.TheVariants as by_terminal
+use Rattle.form_grammar.specs.declared.effect.Last as lasts
+use Rattle.form_grammar.specs.declared.effect.Last.TheVariants as last
 use Rattle.form_grammar.specs.declared.effect.Expected.{Expected}
 use Rattle.form_grammar.specs.declared.effect.Expected.TheVariants as by_expected
-use Rattle.form_grammar.specs.Grammar.{written_sum, written_product, written_factor, written_power}
-use Rattle.form_grammar.specs.Reading.{Reading, begun, powered, raised, run}
-use Rattle.form_grammar.proofs.Powers.{seen_not_negative}
-use Rattle.form_grammar.proofs.Raised.{raised_last}
+use Rattle.form_grammar.specs.declared.effect.Effect.TheVariants as by_effect
+use Rattle.form_grammar.specs.declared.reader.Change.TheVariants as changes
+use Rattle.form_grammar.specs.Effect.{raise_effect}
+use Rattle.form_grammar.specs.Grammar.{written_sum, written_product, written_factor, written_base, written_power, written_name, written_entry, written_arguments}
+use Rattle.form_grammar.specs.Reading.{Reading, begun, with_last, run}
+use Rattle.form_grammar.proofs.Lasts.{base_may_raise, raises_factor, is_raised}
+use Rattle.form_grammar.proofs.Places.{last_of_base, last_behind, last_of}
+use Rattle.form_grammar.proofs.Raised.{changed_last}
 
-abbrev at : List Piece → ℕ → Expected → Reading
+abbrev at : List Piece → List Bracket → Expected → Reading
 at kept opened expected = record { pieces = kept; opened = opened; expected = expected }
 
 -- reading goes over this text from one state to another, whatever follows
-abbrev Reads : ℕ → List Piece → Expected → List terminals.Terminal → List Piece → Expected → Type 0
+abbrev Reads : List Bracket → List Piece → Expected → List terminals.Terminal → List Piece → Expected → Type 0
 Reads opened kept expected text others next = (rest : List terminals.Terminal) → run (at kept opened expected) (text ++ rest) ≡ run (at others opened next) rest
 
--- what is expected behind a factor with this power
-abbrev behind : Option Power → Expected
-behind power = by_expected.Operator (is_some power)
+abbrev last_of_factor : Factor → lasts.Last
+last_of_factor (factor b power) = last_of b power
 
-abbrev power_of_factor : Factor → Option Power
-power_of_factor (factor b power) = power
+abbrev last_of_product : Product → lasts.Last
+last_of_product (one f) = last_of_factor f
+last_of_product (times p f) = last_of_factor f
+last_of_product (over p f) = last_of_factor f
 
-abbrev power_of_product : Product → Option Power
-power_of_product (one f) = power_of_factor f
-power_of_product (times p f) = power_of_factor f
-power_of_product (over p f) = power_of_factor f
+abbrev last_of_sum : Sum → lasts.Last
+last_of_sum (first sign p) = last_of_product p
+last_of_sum (more s sign p) = last_of_product p
 
-abbrev power_of_sum : Sum → Option Power
-power_of_sum (first sign p) = power_of_product p
-power_of_sum (more s sign p) = power_of_product p
+abbrev last_of_arguments : Arguments → lasts.Last
+last_of_arguments (argument s) = last_of_sum s
+last_of_arguments (further args s) = last_of_sum s
+
+abbrev behind : lasts.Last → Expected
+behind l = by_expected.Operator l
 
 abbrev IsNotOver : Link → Type 0
 IsNotOver links.Over = ⊥
 IsNotOver _ = Unit {0}
 
--- a factor may stand so
-abbrev Stands : Link → Factor → Type 0
-Stands links.Over f = IsDivisor f
-Stands _ f = Unit {0}
+-- a base may stand so
+abbrev Stands : Link → Base → Type 0
+Stands links.Over b = IsDivisor (factor b None)
+Stands _ b = Unit {0}
 
-stands : (link : Link) (f : Factor) → IsNotOver link → Stands link f
-stands links.First f h = tt
-stands links.Plus f h = tt
-stands links.Minus f h = tt
-stands links.Times f h = tt
-stands links.Over f h = absurd h
+stands : (link : Link) (b : Base) → IsNotOver link → Stands link b
+stands links.First b h = tt
+stands links.Plus b h = tt
+stands links.Minus b h = tt
+stands links.Times b h = tt
+stands links.Over b h = absurd h
 
--- a parenthesis stands behind no `/`
-divides : (link : Link) (s : Sum) (power : Option Power) → Stands link (factor (parenthesis s) power) → IsNotOver link
-divides links.First s power h = tt
-divides links.Plus s power h = tt
-divides links.Minus s power h = tt
-divides links.Times s power h = tt
-divides links.Over s power h = h
+-- what has parentheses stands behind no `/`
+divides : (link : Link) (b : Base) → (IsDivisor (factor b None) → ⊥) → Stands link b → IsNotOver link
+divides links.First b n h = tt
+divides links.Plus b n h = tt
+divides links.Minus b n h = tt
+divides links.Times b n h = tt
+divides links.Over b n h = n h
 
 not_over_more : (sign : Sign) → IsNotOver (link_of sign)
 not_over_more signs.Plus = tt
 not_over_more signs.Minus = tt
 
-regrouped : (opened : ℕ) (a b c : List Piece) (expected : Expected) (rest : List terminals.Terminal) → run (at ((a ++ b) ++ c) opened expected) rest ≡ run (at (a ++ (b ++ c)) opened expected) rest
+divisor_alone : (b : Base) (power : Option Power) → IsDivisor (factor b power) → Stands links.Over b
+divisor_alone (number n) power h = tt
+divisor_alone (name n) power h = tt
+divisor_alone (dot p q) power h = tt
+divisor_alone (delta spot a c) power h = h
+divisor_alone (empty_call n) power h = h
+divisor_alone (call n args) power h = h
+divisor_alone (parenthesis s) power h = h
+
+regrouped : (opened : List Bracket) (a b c : List Piece) (expected : Expected) (rest : List terminals.Terminal) → run (at ((a ++ b) ++ c) opened expected) rest ≡ run (at (a ++ (b ++ c)) opened expected) rest
 regrouped opened a b c expected rest = ap (λ (kept : List Piece). run (at kept opened expected) rest) (append_assoc a b c)
 
--- a power, behind the piece that it stands on
-exponent : (opened : ℕ) (front : List Piece) (x y : Piece) (is_parenthesized : Bool) (sign : Option Sign) (n : Number) → (is_parenthesized ≡ true → opened < most_open)
-    → powered (record { is_parenthesized = is_parenthesized; sign = sign; number = n }) x ≡ Some y
-    → Reads opened (front ++ x ∷ []) (behind None) (written_power (Some (record { is_parenthesized = is_parenthesized; sign = sign; number = n }))) (front ++ y ∷ []) (behind (Some (record { is_parenthesized = is_parenthesized; sign = sign; number = n })))
+-- ---- powers
+
+abbrev may_raise : lasts.Last → Type 0
+may_raise l = raise_effect l ≡ by_effect.Waits (by_expected.Exponent false None)
+
+-- a power, behind what it changes
+exponent : (opened : List Bracket) (old new : List Piece) (l : lasts.Last) (is_parenthesized : Bool) (sign : Option Sign) (n : Number) → may_raise l → (is_parenthesized ≡ true → length opened < most_open)
+    → with_last (changes.Power (record { is_parenthesized = is_parenthesized; sign = sign; number = n })) old ≡ Some new
+    → Reads opened old (behind l) (written_power (Some (record { is_parenthesized = is_parenthesized; sign = sign; number = n }))) new (behind last.Power)
 unfolding run
-exponent opened front x y false None n room e rest =
-    let p : Power = record { is_parenthesized = false; sign = None; number = n } in
-    let r : raised p (front ++ x ∷ []) ≡ Some (front ++ y ∷ []) = raised_last p front x ∙ ap (option_map (λ z. front ++ z ∷ [])) e in
-    rw r refl
-exponent opened front x y false (Some sign) n room e rest =
-    let p : Power = record { is_parenthesized = false; sign = Some sign; number = n } in
-    let r : raised p (front ++ x ∷ []) ≡ Some (front ++ y ∷ []) = raised_last p front x ∙ ap (option_map (λ z. front ++ z ∷ [])) e in
-    rw r refl
-exponent opened front x y true None n room e rest =
-    let p : Power = record { is_parenthesized = true; sign = None; number = n } in
-    let r : raised p (front ++ x ∷ []) ≡ Some (front ++ y ∷ []) = raised_last p front x ∙ ap (option_map (λ z. front ++ z ∷ [])) e in
-    rw (lt-ltb opened 64 (room refl), r) refl
-exponent opened front x y true (Some sign) n room e rest =
-    let p : Power = record { is_parenthesized = true; sign = Some sign; number = n } in
-    let r : raised p (front ++ x ∷ []) ≡ Some (front ++ y ∷ []) = raised_last p front x ∙ ap (option_map (λ z. front ++ z ∷ [])) e in
-    rw (lt-ltb opened 64 (room refl), r) refl
+exponent opened old new l false None n may room e rest = rw (may, e) refl
+exponent opened old new l false (Some sign) n may room e rest = rw (may, e) refl
+exponent opened old new l true None n may room e rest = rw (may, lt-ltb (length opened) 64 (room refl), e) refl
+exponent opened old new l true (Some sign) n may room e rest = rw (may, lt-ltb (length opened) 64 (room refl), e) refl
 
-power_on_number : (opened : ℕ) (front : List Piece) (link : Link) (n : Number) (power : Option Power) → IsLawfulPower opened power
-    → Reads opened (front ++ pieces.Number link n None ∷ []) (behind None) (written_power power) (front ++ pieces.Number link n power ∷ []) (behind power)
-power_on_number opened front link n None h rest = refl
-power_on_number opened front link n (Some p) h rest = exponent opened front (pieces.Number link n None) (pieces.Number link n (Some p)) p.is_parenthesized p.sign p.number h refl rest
+power_on : (opened : List Bracket) (kept : List Piece) (link : Link) (b : Base) (power : Option Power) → IsLawfulFactor (length opened) (factor b power)
+    → Reads opened (kept ++ pieces_of_factor link (factor b None)) (behind (last_of_base b)) (written_power power) (kept ++ pieces_of_factor link (factor b power)) (behind (last_behind (last_of_base b) power))
+power_on opened kept link b None h rest = refl
+power_on opened kept link b (Some p) h rest =
+    let r = is_raised (length opened) b p h in
+    exponent opened (kept ++ pieces_of_factor link (factor b None)) (kept ++ pieces_of_factor link (factor b (Some p))) (last_of_base b) p.is_parenthesized p.sign p.number (base_may_raise b) r.room (raises_factor kept link b p r.allowed) rest
 
-power_on_name : (opened : ℕ) (front : List Piece) (link : Link) (n : _) (power : Option Power) → IsLawfulPower opened power
-    → Reads opened (front ++ pieces.Name link n None ∷ []) (behind None) (written_power power) (front ++ pieces.Name link n power ∷ []) (behind power)
-power_on_name opened front link n None h rest = refl
-power_on_name opened front link n (Some p) h rest = exponent opened front (pieces.Name link n None) (pieces.Name link n (Some p)) p.is_parenthesized p.sign p.number h refl rest
+lowered : (opened : ℕ) (b : Base) (power : Option Power) → IsLawfulFactor opened (factor b power) → IsLawfulFactor opened (factor b None)
+lowered opened b None h = h
+lowered opened b (Some p) h = (is_raised opened b p h).alone
 
-power_on_close : (opened : ℕ) (front : List Piece) (power : Option Power) → IsLawfulPower opened power → IsNotNegative power
-    → Reads opened (front ++ pieces.Close None ∷ []) (behind None) (written_power power) (front ++ pieces.Close power ∷ []) (behind power)
-power_on_close opened front None h k rest = refl
-power_on_close opened front (Some p) h k rest =
-    let e : powered p (pieces.Close None) ≡ Some (pieces.Close (Some p)) = rw (seen_not_negative p k) refl in
-    exponent opened front (pieces.Close None) (pieces.Close (Some p)) p.is_parenthesized p.sign p.number h e rest
+-- ---- parentheses
 
-opens : (opened : ℕ) (kept : List Piece) (link : Link) (rest : List terminals.Terminal) → IsNotOver link → opened < most_open
-    → run (at kept opened (by_expected.Factor link)) (by_terminal.Open ∷ rest) ≡ run (at (kept ++ pieces.Open link ∷ []) (opened + 1) (by_expected.Factor links.First)) rest
+opens : (opened : List Bracket) (kept : List Piece) (link : Link) (rest : List terminals.Terminal) → IsNotOver link → length opened < most_open
+    → run (at kept opened (by_expected.Factor link)) (by_terminal.Open ∷ rest) ≡ run (at (kept ++ pieces.Open link ∷ []) (Parenthesis ∷ opened) (by_expected.Factor links.First)) rest
 unfolding run
-opens opened kept links.First rest h room = rw (lt-ltb opened 64 room) refl
-opens opened kept links.Plus rest h room = rw (lt-ltb opened 64 room) refl
-opens opened kept links.Minus rest h room = rw (lt-ltb opened 64 room) refl
-opens opened kept links.Times rest h room = rw (lt-ltb opened 64 room) refl
+opens opened kept links.First rest h room = rw (lt-ltb (length opened) 64 room) refl
+opens opened kept links.Plus rest h room = rw (lt-ltb (length opened) 64 room) refl
+opens opened kept links.Minus rest h room = rw (lt-ltb (length opened) 64 room) refl
+opens opened kept links.Times rest h room = rw (lt-ltb (length opened) 64 room) refl
 opens opened kept links.Over rest h room = absurd h
 
-closes : (opened : ℕ) (kept : List Piece) (power : Option Power) (rest : List terminals.Terminal)
-    → run (at kept (opened + 1) (behind power)) (by_terminal.Close ∷ rest) ≡ run (at (kept ++ pieces.Close None ∷ []) opened (behind None)) rest
+closes : (opened : List Bracket) (kept : List Piece) (l : lasts.Last) (rest : List terminals.Terminal)
+    → run (at kept (Parenthesis ∷ opened) (behind l)) (by_terminal.Close ∷ rest) ≡ run (at (kept ++ pieces.Close None ∷ []) opened (behind last.Base)) rest
 unfolding run
-closes opened kept power rest =
-    let some : 0 < opened + 1 = omega arith in
-    let back : opened + 1 - 1 ≡ opened = omega arith in
-    rw (lt-ltb 0 (opened + 1) some, back) refl
+closes opened kept l rest = refl
 
-enclosed_text : {A : Type 0} (a b rest : List A) (x : A) → ((a ++ x ∷ []) ++ b) ++ rest ≡ a ++ (x ∷ (b ++ rest))
-enclosed_text a b rest x = simp append_assoc
+-- ---- names
+
+names_it : (opened : List Bracket) (kept : List Piece) (link : Link) (n : Named) (rest : List terminals.Terminal)
+    → run (at kept opened (by_expected.Factor link)) (written_name n ∷ rest) ≡ run (at (kept ++ pieces.Name link n None ∷ []) opened (behind last.Name)) rest
+unfolding run
+names_it opened kept link (names.Declared n) rest = refl
+names_it opened kept link (names.Imaginary spot) rest = refl
+
+dots : (opened : List Bracket) (kept : List Piece) (link : Link) (n : Named) (rest : List terminals.Terminal)
+    → run (at (kept ++ pieces.Name link n None ∷ []) opened (behind last.Name)) (by_terminal.Period ∷ rest) ≡ run (at (kept ++ pieces.Dot link n ∷ []) opened by_expected.Vector) rest
+unfolding run
+dots opened kept link n rest = rw (changed_last changes.Dot kept (pieces.Name link n None)) refl
+
+ends_dot : (opened : List Bracket) (kept : List Piece) (n : Named) (rest : List terminals.Terminal)
+    → run (at kept opened by_expected.Vector) (written_name n ∷ rest) ≡ run (at (kept ++ pieces.EndOfDot n None ∷ []) opened (behind last.Base)) rest
+unfolding run
+ends_dot opened kept (names.Declared n) rest = refl
+ends_dot opened kept (names.Imaginary spot) rest = refl
+
+called : (kept : List Piece) (link : Link) (n : Named) → IsNotOver link → with_last changes.Call (kept ++ pieces.Name link n None ∷ []) ≡ Some (kept ++ pieces.Call link n ∷ [])
+called kept links.First n h = changed_last changes.Call kept (pieces.Name links.First n None)
+called kept links.Plus n h = changed_last changes.Call kept (pieces.Name links.Plus n None)
+called kept links.Minus n h = changed_last changes.Call kept (pieces.Name links.Minus n None)
+called kept links.Times n h = changed_last changes.Call kept (pieces.Name links.Times n None)
+called kept links.Over n h = absurd h
+
+calls : (opened : List Bracket) (kept : List Piece) (link : Link) (n : Named) (rest : List terminals.Terminal) → IsNotOver link → length opened < most_open
+    → run (at (kept ++ pieces.Name link n None ∷ []) opened (behind last.Name)) (by_terminal.Open ∷ rest) ≡ run (at (kept ++ pieces.Call link n ∷ []) (brackets.Arguments ∷ opened) by_expected.Argument) rest
+unfolding run
+calls opened kept link n rest h room = rw (lt-ltb (length opened) 64 room, called kept link n h) refl
+
+ends_empty : (opened : List Bracket) (kept : List Piece) (rest : List terminals.Terminal)
+    → run (at kept (brackets.Arguments ∷ opened) by_expected.Argument) (by_terminal.Close ∷ rest) ≡ run (at (kept ++ pieces.EndOfCall None ∷ []) opened (behind last.Base)) rest
+unfolding run
+ends_empty opened kept rest = refl
+
+ends_call : (opened : List Bracket) (kept : List Piece) (l : lasts.Last) (rest : List terminals.Terminal)
+    → run (at kept (brackets.Arguments ∷ opened) (behind l)) (by_terminal.Close ∷ rest) ≡ run (at (kept ++ pieces.EndOfCall None ∷ []) opened (behind last.Base)) rest
+unfolding run
+ends_call opened kept l rest = refl
+
+parts : (opened : List Bracket) (kept : List Piece) (l : lasts.Last) (rest : List terminals.Terminal)
+    → run (at kept (brackets.Arguments ∷ opened) (behind l)) (by_terminal.Comma ∷ rest) ≡ run (at (kept ++ pieces.Comma ∷ []) (brackets.Arguments ∷ opened) (by_expected.Factor links.First)) rest
+unfolding run
+parts opened kept l rest = refl
+
+-- ---- deltas
+
+delta_opens : (opened : List Bracket) (kept : List Piece) (link : Link) (spot : Spot) (rest : List terminals.Terminal) → IsNotOver link → length opened < most_open
+    → run (at kept opened (by_expected.Factor link)) (by_terminal.Delta spot ∷ by_terminal.Open ∷ rest) ≡ run (at kept opened (by_expected.FirstEntry link spot)) rest
+unfolding run
+delta_opens opened kept links.First spot rest h room = rw (lt-ltb (length opened) 64 room) refl
+delta_opens opened kept links.Plus spot rest h room = rw (lt-ltb (length opened) 64 room) refl
+delta_opens opened kept links.Minus spot rest h room = rw (lt-ltb (length opened) 64 room) refl
+delta_opens opened kept links.Times spot rest h room = rw (lt-ltb (length opened) 64 room) refl
+delta_opens opened kept links.Over spot rest h room = absurd h
+
+first_entry : (opened : List Bracket) (kept : List Piece) (link : Link) (spot : Spot) (a : Entry) (rest : List terminals.Terminal)
+    → run (at kept opened (by_expected.FirstEntry link spot)) (written_entry a ∷ by_terminal.Comma ∷ rest) ≡ run (at (kept ++ pieces.Delta link spot a ∷ []) opened by_expected.SecondEntry) rest
+unfolding run
+first_entry opened kept link spot (entries.Name (names.Declared n)) rest = refl
+first_entry opened kept link spot (entries.Name (names.Imaginary other)) rest = refl
+first_entry opened kept link spot (entries.Number n) rest = refl
+
+second_entry : (opened : List Bracket) (kept : List Piece) (a : Entry) (rest : List terminals.Terminal)
+    → run (at kept opened by_expected.SecondEntry) (written_entry a ∷ by_terminal.Close ∷ rest) ≡ run (at (kept ++ pieces.EndOfDelta a None ∷ []) opened (behind last.Base)) rest
+unfolding run
+second_entry opened kept (entries.Name (names.Declared n)) rest = refl
+second_entry opened kept (entries.Name (names.Imaginary spot)) rest = refl
+second_entry opened kept (entries.Number n) rest = refl
+
+-- ---- the first terminal of a sum closes nothing
+
+module _ (opened : List Bracket) (kept : List Piece) where
+  abbrev AsFactor : List terminals.Terminal → Type 0
+  AsFactor text = (rest : List terminals.Terminal) → run (at kept opened by_expected.Argument) (text ++ rest) ≡ run (at kept opened (by_expected.Factor links.First)) (text ++ rest)
+
+  further_text : (text others : List terminals.Terminal) → AsFactor text → AsFactor (text ++ others)
+  further_text text others h rest =
+      ap (run (at kept opened by_expected.Argument)) (append_assoc text others rest) ∙ h (others ++ rest)
+      ∙ sym (ap (run (at kept opened (by_expected.Factor links.First))) (append_assoc text others rest))
+
+  first_name : (n : Named) → AsFactor (written_name n ∷ [])
+  unfolding run
+  first_name (names.Declared n) rest = refl
+  first_name (names.Imaginary spot) rest = refl
+
+  first_base : (b : Base) → AsFactor (written_base b)
+  unfolding run
+  first_base (number n) rest = refl
+  first_base (name n) rest = first_name n rest
+  first_base (dot p q) rest = first_name p (by_terminal.Period ∷ written_name q ∷ rest)
+  first_base (delta spot a c) rest = refl
+  first_base (empty_call n) rest = first_name n (by_terminal.Open ∷ by_terminal.Close ∷ rest)
+  first_base (call n args) rest = first_name n (by_terminal.Open ∷ (written_arguments args ++ by_terminal.Close ∷ []) ++ rest)
+  first_base (parenthesis s) rest = refl
+
+  first_factor : (f : Factor) → AsFactor (written_factor f)
+  first_factor (factor b power) = further_text (written_base b) (written_power power) (first_base b)
+
+  first_product : (p : Product) → AsFactor (written_product p)
+  first_product (one f) = first_factor f
+  first_product (times p f) = further_text (written_product p) (by_terminal.Times ∷ written_factor f) (first_product p)
+  first_product (over p f) = further_text (written_product p) (by_terminal.Over ∷ written_factor f) (first_product p)
+
+  first_sum : (s : Sum) → AsFactor (written_sum s)
+  unfolding run
+  first_sum (first None p) rest = first_product p rest
+  first_sum (first (Some sign) p) rest = refl
+  first_sum (more s sign p) rest = further_text (written_sum s) (by_terminal.Sign sign ∷ written_product p) (first_sum s) rest
+
+-- ---- trees
+
+enclosed_text : {A : Type 0} (a rest : List A) (x : A) → (a ++ x ∷ []) ++ rest ≡ a ++ (x ∷ rest)
+enclosed_text a rest x = append_assoc a (x ∷ []) rest
 
 enclosed_pieces : {A : Type 0} (kept a : List A) (x y : A) → ((kept ++ x ∷ []) ++ a) ++ y ∷ [] ≡ kept ++ (x ∷ (a ++ y ∷ []))
 enclosed_pieces kept a x y = simp append_assoc
 
+two_pieces : {A : Type 0} (kept : List A) (x y : A) → (kept ++ x ∷ []) ++ y ∷ [] ≡ kept ++ x ∷ y ∷ []
+two_pieces kept x y = append_assoc kept (x ∷ []) (y ∷ [])
+
+parted_pieces : {A : Type 0} (kept args s : List A) (x : A) → ((kept ++ args) ++ x ∷ []) ++ s ≡ kept ++ (args ++ x ∷ s)
+parted_pieces kept args s x = append_assoc (kept ++ args) (x ∷ []) s ∙ append_assoc kept args (x ∷ s)
+
+-- a base with its power
+with_power : (b : Base) (power : Option Power) (opened : List Bracket) (kept : List Piece) (link : Link) → IsLawfulFactor (length opened) (factor b power)
+    → Reads opened kept (by_expected.Factor link) (written_base b) (kept ++ pieces_of_factor link (factor b None)) (behind (last_of_base b))
+    → Reads opened kept (by_expected.Factor link) (written_base b ++ written_power power) (kept ++ pieces_of_factor link (factor b power)) (behind (last_of b power))
+with_power b power opened kept link h reads rest =
+    ap (run (at kept opened (by_expected.Factor link))) (append_assoc (written_base b) (written_power power) rest)
+    ∙ reads (written_power power ++ rest)
+    ∙ power_on opened kept link b power h rest
+
+no_divisor : ⊥ → ⊥
+no_divisor h = h
+
 mutual
   unfolding run
 
-  reads_sum : (s : Sum) (opened : ℕ) (kept : List Piece) → IsLawfulSum opened s → Reads opened kept (by_expected.Factor links.First) (written_sum s) (kept ++ pieces_of_sum s) (behind (power_of_sum s))
+  reads_sum : (s : Sum) (opened : List Bracket) (kept : List Piece) → IsLawfulSum (length opened) s → Reads opened kept (by_expected.Factor links.First) (written_sum s) (kept ++ pieces_of_sum s) (behind (last_of_sum s))
   reads_sum (first None p) opened kept h rest = reads_product p opened kept links.First h tt rest
   reads_sum (first (Some sign) p) opened kept h rest = reads_product p opened kept (link_of sign) h (not_over_more sign) rest
   reads_sum (more s sign p) opened kept h rest =
       ap (run (at kept opened (by_expected.Factor links.First))) (append_assoc (written_sum s) (by_terminal.Sign sign ∷ written_product p) rest)
       ∙ reads_sum s opened kept h.0 (by_terminal.Sign sign ∷ written_product p ++ rest)
       ∙ reads_product p opened (kept ++ pieces_of_sum s) (link_of sign) h.1 (not_over_more sign) rest
-      ∙ regrouped opened kept (pieces_of_sum s) (pieces_of_product (link_of sign) p) (behind (power_of_product p)) rest
+      ∙ regrouped opened kept (pieces_of_sum s) (pieces_of_product (link_of sign) p) (behind (last_of_product p)) rest
 
-  reads_product : (p : Product) (opened : ℕ) (kept : List Piece) (link : Link) → IsLawfulProduct opened p → IsNotOver link
-      → Reads opened kept (by_expected.Factor link) (written_product p) (kept ++ pieces_of_product link p) (behind (power_of_product p))
-  reads_product (one f) opened kept link h k rest = reads_factor f opened kept link h (stands link f k) rest
-  reads_product (times p f) opened kept link h k rest =
-      ap (run (at kept opened (by_expected.Factor link))) (append_assoc (written_product p) (by_terminal.Times ∷ written_factor f) rest)
-      ∙ reads_product p opened kept link h.0 k (by_terminal.Times ∷ written_factor f ++ rest)
-      ∙ reads_factor f opened (kept ++ pieces_of_product link p) links.Times h.1 tt rest
-      ∙ regrouped opened kept (pieces_of_product link p) (pieces_of_factor links.Times f) (behind (power_of_factor f)) rest
-  reads_product (over p f) opened kept link h k rest =
-      ap (run (at kept opened (by_expected.Factor link))) (append_assoc (written_product p) (by_terminal.Over ∷ written_factor f) rest)
-      ∙ reads_product p opened kept link h.0 k (by_terminal.Over ∷ written_factor f ++ rest)
-      ∙ reads_factor f opened (kept ++ pieces_of_product link p) links.Over h.1 h.2 rest
-      ∙ regrouped opened kept (pieces_of_product link p) (pieces_of_factor links.Over f) (behind (power_of_factor f)) rest
+  reads_product : (p : Product) (opened : List Bracket) (kept : List Piece) (link : Link) → IsLawfulProduct (length opened) p → IsNotOver link
+      → Reads opened kept (by_expected.Factor link) (written_product p) (kept ++ pieces_of_product link p) (behind (last_of_product p))
+  reads_product (one (factor b power)) opened kept link h k rest = with_power b power opened kept link h (reads_base b opened kept link (lowered (length opened) b power h) (stands link b k)) rest
+  reads_product (times p (factor b power)) opened kept link h k rest =
+      ap (run (at kept opened (by_expected.Factor link))) (append_assoc (written_product p) (by_terminal.Times ∷ written_factor (factor b power)) rest)
+      ∙ reads_product p opened kept link h.0 k (by_terminal.Times ∷ written_factor (factor b power) ++ rest)
+      ∙ with_power b power opened (kept ++ pieces_of_product link p) links.Times h.1 (reads_base b opened (kept ++ pieces_of_product link p) links.Times (lowered (length opened) b power h.1) tt) rest
+      ∙ regrouped opened kept (pieces_of_product link p) (pieces_of_factor links.Times (factor b power)) (behind (last_of b power)) rest
+  reads_product (over p (factor b power)) opened kept link h k rest =
+      ap (run (at kept opened (by_expected.Factor link))) (append_assoc (written_product p) (by_terminal.Over ∷ written_factor (factor b power)) rest)
+      ∙ reads_product p opened kept link h.0 k (by_terminal.Over ∷ written_factor (factor b power) ++ rest)
+      ∙ with_power b power opened (kept ++ pieces_of_product link p) links.Over h.1 (reads_base b opened (kept ++ pieces_of_product link p) links.Over (lowered (length opened) b power h.1) (divisor_alone b power h.2)) rest
+      ∙ regrouped opened kept (pieces_of_product link p) (pieces_of_factor links.Over (factor b power)) (behind (last_of b power)) rest
 
-  reads_factor : (f : Factor) (opened : ℕ) (kept : List Piece) (link : Link) → IsLawfulFactor opened f → Stands link f
-      → Reads opened kept (by_expected.Factor link) (written_factor f) (kept ++ pieces_of_factor link f) (behind (power_of_factor f))
-  reads_factor (factor (number n) power) opened kept link h k rest = power_on_number opened kept link n power h rest
-  reads_factor (factor (name n) power) opened kept link h k rest = power_on_name opened kept link n power h rest
-  reads_factor (factor (parenthesis s) power) opened kept link h k rest =
-      let text = by_terminal.Close ∷ written_power power ++ rest in
+  reads_base : (b : Base) (opened : List Bracket) (kept : List Piece) (link : Link) → IsLawfulFactor (length opened) (factor b None) → Stands link b
+      → Reads opened kept (by_expected.Factor link) (written_base b) (kept ++ pieces_of_factor link (factor b None)) (behind (last_of_base b))
+  reads_base (number n) opened kept link h k rest = refl
+  reads_base (name n) opened kept link h k rest = names_it opened kept link n rest
+  reads_base (dot p q) opened kept link h k rest =
+      names_it opened kept link p (by_terminal.Period ∷ written_name q ∷ rest)
+      ∙ dots opened kept link p (written_name q ∷ rest)
+      ∙ ends_dot opened (kept ++ pieces.Dot link p ∷ []) q rest
+      ∙ ap (λ (all : List Piece). run (at all opened (behind last.Base)) rest) (two_pieces kept (pieces.Dot link p) (pieces.EndOfDot q None))
+  reads_base (delta spot a c) opened kept link h k rest =
+      delta_opens opened kept link spot (written_entry a ∷ by_terminal.Comma ∷ written_entry c ∷ by_terminal.Close ∷ rest) (divides link (delta spot a c) no_divisor k) h.0
+      ∙ first_entry opened kept link spot a (written_entry c ∷ by_terminal.Close ∷ rest)
+      ∙ second_entry opened (kept ++ pieces.Delta link spot a ∷ []) c rest
+      ∙ ap (λ (all : List Piece). run (at all opened (behind last.Base)) rest) (two_pieces kept (pieces.Delta link spot a) (pieces.EndOfDelta c None))
+  reads_base (empty_call n) opened kept link h k rest =
+      names_it opened kept link n (by_terminal.Open ∷ by_terminal.Close ∷ rest)
+      ∙ calls opened kept link n (by_terminal.Close ∷ rest) (divides link (empty_call n) no_divisor k) h.0
+      ∙ ends_empty opened (kept ++ pieces.Call link n ∷ []) rest
+      ∙ ap (λ (all : List Piece). run (at all opened (behind last.Base)) rest) (two_pieces kept (pieces.Call link n) (pieces.EndOfCall None))
+  reads_base (call n args) opened kept link h k rest =
+      let front = kept ++ pieces.Call link n ∷ [] in
+      ap (λ (t : List terminals.Terminal). run (at kept opened (by_expected.Factor link)) (written_name n ∷ by_terminal.Open ∷ t)) (enclosed_text (written_arguments args) rest by_terminal.Close)
+      ∙ names_it opened kept link n (by_terminal.Open ∷ written_arguments args ++ by_terminal.Close ∷ rest)
+      ∙ calls opened kept link n (written_arguments args ++ by_terminal.Close ∷ rest) (divides link (call n args) no_divisor k) h.0
+      ∙ reads_arguments args opened front (subst (λ (m : ℕ). IsLawfulArguments m args) (add-one (length opened)) h.1) (by_terminal.Close ∷ rest)
+      ∙ ends_call opened (front ++ pieces_of_arguments args) (last_of_arguments args) rest
+      ∙ ap (λ (all : List Piece). run (at all opened (behind last.Base)) rest) (enclosed_pieces kept (pieces_of_arguments args) (pieces.Call link n) (pieces.EndOfCall None))
+  reads_base (parenthesis s) opened kept link h k rest =
       let front = kept ++ pieces.Open link ∷ [] in
-      ap (λ (t : List terminals.Terminal). run (at kept opened (by_expected.Factor link)) (by_terminal.Open ∷ t)) (enclosed_text (written_sum s) (written_power power) rest by_terminal.Close)
-      ∙ opens opened kept link (written_sum s ++ text) (divides link s power k) h.0
-      ∙ reads_sum s (opened + 1) front h.1 text
-      ∙ closes opened (front ++ pieces_of_sum s) (power_of_sum s) (written_power power ++ rest)
-      ∙ power_on_close opened (front ++ pieces_of_sum s) power h.2 h.3 rest
-      ∙ ap (λ (all : List Piece). run (at all opened (behind power)) rest) (enclosed_pieces kept (pieces_of_sum s) (pieces.Open link) (pieces.Close power))
+      ap (λ (t : List terminals.Terminal). run (at kept opened (by_expected.Factor link)) (by_terminal.Open ∷ t)) (enclosed_text (written_sum s) rest by_terminal.Close)
+      ∙ opens opened kept link (written_sum s ++ by_terminal.Close ∷ rest) (divides link (parenthesis s) no_divisor k) h.0
+      ∙ reads_sum s (Parenthesis ∷ opened) front (subst (λ (m : ℕ). IsLawfulSum m s) (add-one (length opened)) h.1) (by_terminal.Close ∷ rest)
+      ∙ closes opened (front ++ pieces_of_sum s) (last_of_sum s) rest
+      ∙ ap (λ (all : List Piece). run (at all opened (behind last.Base)) rest) (enclosed_pieces kept (pieces_of_sum s) (pieces.Open link) (pieces.Close None))
+
+  reads_arguments : (args : Arguments) (opened : List Bracket) (kept : List Piece) → IsLawfulArguments (suc (length opened)) args
+      → Reads (brackets.Arguments ∷ opened) kept by_expected.Argument (written_arguments args) (kept ++ pieces_of_arguments args) (behind (last_of_arguments args))
+  reads_arguments (argument s) opened kept h rest =
+      first_sum (brackets.Arguments ∷ opened) kept s rest
+      ∙ reads_sum s (brackets.Arguments ∷ opened) kept h rest
+  reads_arguments (further args s) opened kept h rest =
+      ap (run (at kept (brackets.Arguments ∷ opened) by_expected.Argument)) (append_assoc (written_arguments args) (by_terminal.Comma ∷ written_sum s) rest)
+      ∙ reads_arguments args opened kept h.0 (by_terminal.Comma ∷ written_sum s ++ rest)
+      ∙ parts opened (kept ++ pieces_of_arguments args) (last_of_arguments args) (written_sum s ++ rest)
+      ∙ reads_sum s (brackets.Arguments ∷ opened) ((kept ++ pieces_of_arguments args) ++ pieces.Comma ∷ []) h.1 rest
+      ∙ ap (λ (all : List Piece). run (at all (brackets.Arguments ∷ opened) (behind (last_of_sum s))) rest) (parted_pieces kept (pieces_of_arguments args) (pieces_of_sum s) pieces.Comma)
 
 -- A lawful right side is read, and its pieces are kept.
 pub complete : (s : Sum) → IsLawful s → run begun (written_sum s) ≡ Some (pieces_of_sum s)
 unfolding run
-complete s h = ap (run begun) (sym (append-nil (written_sum s))) ∙ reads_sum s 0 [] h []
+complete s h = ap (run begun) (sym (append-nil (written_sum s))) ∙ reads_sum s [] [] h []

@@ -1,29 +1,41 @@
 -- What is read whole is a lawful right side.
-use Rattle.std.proofs.Common.{◌≡◌, ◌⊎◌, inl, inr, ℕ, suc, ◌+◌, ◌-◌, ◌<◌, Bool, true, false, List, [], ◌∷◌, ◌++◌, length, Option, Some, None, option_map, option_and_then, refl, sym, ap, subst, ◌∙◌, append_assoc, add-one, arith, cond, ltb, eqb}
-use Rattle.std.proofs.lemmas.Bool.{ltb-true, eqb-true}
+use Rattle.std.proofs.Common.{◌≡◌, ◌⊎◌, inl, inr, ◌+◌, ◌<◌, Bool, true, false, List, [], ◌∷◌, ◌++◌, Option, Some, None, option_map, option_and_then, refl, sym, ap, subst, ◌∙◌, append_assoc, add-one, cond, ltb}
+use Rattle.std.proofs.lemmas.Bool.{ltb-true}
 use Rattle.std.proofs.lemmas.List.{append-nil}
-use Rattle.std.proofs.lemmas.Option.{same_Some}
+use Rattle.std.proofs.lemmas.Option.{same_Some, none-some}
+use Rattle.form_base.specs.declared.spot.Spot.{Spot}
 use Rattle.form_ast.specs.declared.expr.Sign.{Sign}
 use Rattle.form_ast.specs.declared.expr.Sign.TheVariants as signs
-use Rattle.form_ast.specs.declared.expr.Link.{Link}
 use Rattle.form_ast.specs.declared.expr.Link.TheVariants as links
 use Rattle.form_ast.specs.declared.expr.Number.{Number}
+use Rattle.form_ast.specs.declared.expr.Named.{Named}
+use Rattle.form_ast.specs.declared.expr.Named.TheVariants as names
+use Rattle.form_ast.specs.declared.expr.Entry.{Entry}
+use Rattle.form_ast.specs.declared.expr.Entry.TheVariants as entries
 use Rattle.form_ast.specs.declared.expr.Power.{Power}
 use Rattle.form_ast.specs.declared.expr.Piece.{Piece}
 use Rattle.form_ast.specs.declared.expr.Piece.TheVariants as pieces
-use Rattle.form_ast.specs.Syntax.{Sum, factor, Base, number, name, parenthesis, link_of, pieces_of_sum, pieces_of_factor}
-use Rattle.form_ast.specs.Lawful.{most_open, IsLawfulSum, IsLawfulFactor}
+use Rattle.form_ast.specs.Building.{start, after, with_argument}
+use Rattle.form_ast.specs.Syntax.{Sum, Factor, factor, Base, number, name, dot, delta, empty_call, call, parenthesis, Arguments, link_of, pieces_of_sum, pieces_of_factor, pieces_of_arguments}
+use Rattle.form_ast.specs.Lawful.{most_open, IsLawfulSum, IsLawfulFactor, IsLawfulArguments}
+use Rattle.form_grammar.specs.declared.brackets.Bracket.{Bracket}
+use Rattle.form_grammar.specs.declared.brackets.Bracket.TheVariants as brackets_by
 use Rattle.form_grammar.specs.declared.terminal.Terminal.{Terminal}
 use Rattle.form_grammar.specs.declared.terminal.Terminal.TheVariants as by_terminal
+use Rattle.form_grammar.specs.declared.effect.Last.TheVariants as last
 use Rattle.form_grammar.specs.declared.effect.Expected.{Expected}
 use Rattle.form_grammar.specs.declared.effect.Expected.TheVariants as by_expected
+use Rattle.form_grammar.specs.declared.effect.Effect.{Effect}
 use Rattle.form_grammar.specs.declared.effect.Effect.TheVariants as by_effect
-use Rattle.form_grammar.specs.Effect.{open_effect, first_sign_effect}
-use Rattle.form_grammar.specs.Grammar.{written_sum, written_product, written_factor, written_base, written_sign, IsExpr}
-use Rattle.form_grammar.specs.Reading.{Reading, begun, is_negative, raised, applied, step, finished, run}
-use Rattle.form_grammar.proofs.Powers.{not_negative}
-use Rattle.form_grammar.proofs.Raised.{raised_last}
-use Rattle.form_grammar.proofs.Places.{start, after, Before, lead, by_times, by_over, Place, at_factor, at_exponent, at_closing, at_operator, link_before, lead_of, product_of, sum_to, kept_before, kept_around, kept_factor, reading_at, written_before, written_around, written_at, Fits, TakesParenthesis, IsLawfulTo, IsLawfulAt, written_whole, kept_filled, kept_whole, lawful_product, lawful_lead, lawful_whole, written_filled, written_lead}
+use Rattle.form_grammar.specs.declared.reader.Change.{Change}
+use Rattle.form_grammar.specs.declared.reader.Change.TheVariants as changes
+use Rattle.form_grammar.specs.Effect.{unless_over, first_sign_effect}
+use Rattle.form_grammar.specs.Grammar.{written_sum, written_product, written_factor, written_base, written_sign, written_name, written_entry, written_arguments, IsExpr}
+use Rattle.form_grammar.specs.Reading.{Reading, begun, changed, with_last, changed_reading, applied, step, finished, run}
+use Rattle.form_grammar.specs.Reading as readings
+use Rattle.form_grammar.proofs.Lasts.{Allowed, raised_factor, lawful_raised, base_may_raise, mapped}
+use Rattle.form_grammar.proofs.Raised.{changed_last}
+use Rattle.form_grammar.proofs.Places.{Before, lead, by_times, by_over, Outer, in_parenthesis, in_arguments, Place, at_factor, at_argument, at_exponent, at_closing, at_operator, at_vector, at_delta, at_first_entry, at_comma, at_second_entry, at_delta_closing, link_before, lead_of, product_of, sum_to, brackets, depth, last_of_base, kept_before, kept_parted, kept_around, kept_to, kept_factor, reading_at, written_lead, written_before, written_parted, written_around, written_to, written_at, Fits, TakesParenthesis, IsLawfulTo, IsLawfulAt, written_whole, kept_filled, kept_whole, lawful_product, lawful_lead, lawful_whole, written_filled, kept_arguments, written_all_arguments, lawful_arguments}
 
 -- reading goes on to a place, one terminal further
 pub record GoesOn (place : Place) (t : Terminal) (next : Reading) : Type 0 where
@@ -32,63 +44,66 @@ pub record GoesOn (place : Place) (t : Terminal) (next : Reading) : Type 0 where
   pub kept : next ≡ reading_at there
   pub written : written_at place ++ t ∷ [] ≡ written_at there
 
-abbrev at : List Piece → ℕ → Expected → Reading
+abbrev at : List Piece → List Bracket → Expected → Reading
 at kept opened expected = record { pieces = kept; opened = opened; expected = expected }
 
-passes : {X : Type 0} (b : Bool) (x y : X) → cond b (Some x) None ≡ Some y → (b ≡ true) × (x ≡ y)
-passes true x y e = (refl, same_Some x y e)
-passes false x y e = absurd cc
+passes : {X : Type 0} (b : Bool) (o : Option X) (y : X) → cond b o None ≡ Some y → (b ≡ true) × (o ≡ Some y)
+passes true o y e = (refl, e)
+passes false o y e = absurd cc
 
-mapped : {X Y : Type 0} (f : X → Y) (o : Option X) (y : Y) → option_map f o ≡ Some y → (x : X) × (o ≡ Some x) × (f x ≡ y)
-mapped f (Some x) y e = (x, refl, same_Some (f x) y e)
-mapped f None y e = absurd cc
-
-fits_number : (b : Before) (n : Number) (power : Option Power) → Fits b (factor (number n) power)
-fits_number (lead l) n power = tt
-fits_number (by_times l p) n power = tt
-fits_number (by_over l p) n power = tt
-
-fits_name : (b : Before) (n : _) (power : Option Power) → Fits b (factor (name n) power)
-fits_name (lead l) n power = tt
-fits_name (by_times l p) n power = tt
-fits_name (by_over l p) n power = tt
-
-fits_parenthesis : (b : Before) (s : Sum) (power : Option Power) → TakesParenthesis b → Fits b (factor (parenthesis s) power)
-fits_parenthesis (lead l) s power h = tt
-fits_parenthesis (by_times l p) s power h = tt
-fits_parenthesis (by_over l p) s power h = absurd h
+-- ---- what fits
 
 fits_raised : (b : Before) (base : Base) (power : Option Power) → Fits b (factor base None) → Fits b (factor base power)
 fits_raised (lead l) base power h = tt
 fits_raised (by_times l p) base power h = tt
 fits_raised (by_over l p) (number n) power h = tt
 fits_raised (by_over l p) (name n) power h = tt
+fits_raised (by_over l p) (dot q r) power h = tt
+fits_raised (by_over l p) (delta spot q r) power h = h
+fits_raised (by_over l p) (empty_call n) power h = h
+fits_raised (by_over l p) (call n args) power h = h
 fits_raised (by_over l p) (parenthesis s) power h = h
 
--- a sign where a factor is expected
-sign_at_factor : (around : List Before) (b : Before) (sign : Sign) (next : Reading) → IsLawfulAt (at_factor around b)
-    → applied (reading_at (at_factor around b)) (first_sign_effect (link_before b) sign) ≡ Some next → GoesOn (at_factor around b) (by_terminal.Sign sign) next
-sign_at_factor around (lead (start None)) sign next h e = record {
-  there = at_factor around (lead (start (Some sign)));
-  lawful = (h.0, tt);
-  kept = sym (same_Some _ next e);
-  written = append_assoc (written_around around) [] (by_terminal.Sign sign ∷ []);
-}
-sign_at_factor around (lead (start (Some signs.Plus))) sign next h e = absurd cc
-sign_at_factor around (lead (start (Some signs.Minus))) sign next h e = absurd cc
-sign_at_factor around (lead (after s signs.Plus)) sign next h e = absurd cc
-sign_at_factor around (lead (after s signs.Minus)) sign next h e = absurd cc
-sign_at_factor around (by_times l p) sign next h e = absurd cc
-sign_at_factor around (by_over l p) sign next h e = absurd cc
+fits_number : (b : Before) (n : Number) → Fits b (factor (number n) None)
+fits_number (lead l) n = tt
+fits_number (by_times l p) n = tt
+fits_number (by_over l p) n = tt
 
-opening : (b : Before) → (TakesParenthesis b × (open_effect (link_before b) ≡ by_effect.Opens (link_before b))) ⊎ (open_effect (link_before b) ≡ by_effect.Fails)
-opening (lead (start None)) = inl (tt, refl)
-opening (lead (start (Some signs.Plus))) = inl (tt, refl)
-opening (lead (start (Some signs.Minus))) = inl (tt, refl)
-opening (lead (after s signs.Plus)) = inl (tt, refl)
-opening (lead (after s signs.Minus)) = inl (tt, refl)
-opening (by_times l p) = inl (tt, refl)
-opening (by_over l p) = inr refl
+fits_name : (b : Before) (n : Named) → Fits b (factor (name n) None)
+fits_name (lead l) n = tt
+fits_name (by_times l p) n = tt
+fits_name (by_over l p) n = tt
+
+fits_dot : (b : Before) (p q : Named) → Fits b (factor (dot p q) None)
+fits_dot (lead l) p q = tt
+fits_dot (by_times l r) p q = tt
+fits_dot (by_over l r) p q = tt
+
+fits_taken : (b : Before) (f : Factor) → TakesParenthesis b → Fits b f
+fits_taken (lead l) f h = tt
+fits_taken (by_times l p) f h = tt
+fits_taken (by_over l p) f h = absurd h
+
+-- what has parentheses may stand behind this
+record Takes (b : Before) : Type 0 where
+  takes : TakesParenthesis b
+  effect : (e : Effect) → unless_over (link_before b) e ≡ e
+  kept : (p : Piece) → readings.unless_over (link_before b) p ≡ Some p
+
+record TakesNone (b : Before) : Type 0 where
+  effect : (e : Effect) → unless_over (link_before b) e ≡ by_effect.Fails
+  kept : (p : Piece) → readings.unless_over (link_before b) p ≡ None
+
+opening : (b : Before) → Takes b ⊎ TakesNone b
+opening (lead (start None)) = inl (record { takes = tt; effect = λ e. refl; kept = λ p. refl })
+opening (lead (start (Some signs.Plus))) = inl (record { takes = tt; effect = λ e. refl; kept = λ p. refl })
+opening (lead (start (Some signs.Minus))) = inl (record { takes = tt; effect = λ e. refl; kept = λ p. refl })
+opening (lead (after s signs.Plus)) = inl (record { takes = tt; effect = λ e. refl; kept = λ p. refl })
+opening (lead (after s signs.Minus)) = inl (record { takes = tt; effect = λ e. refl; kept = λ p. refl })
+opening (by_times l p) = inl (record { takes = tt; effect = λ e. refl; kept = λ p. refl })
+opening (by_over l p) = inr (record { effect = λ e. refl; kept = λ p. refl })
+
+-- ---- lists
 
 module _ {A : Type 0} where
   -- a mark behind what stands before it
@@ -107,39 +122,88 @@ module _ {A : Type 0} where
   enclosed : (a b c : List A) (x y : A) → (a ++ (b ++ x ∷ [])) ++ (c ++ y ∷ []) ≡ a ++ (b ++ ((x ∷ (c ++ y ∷ [])) ++ []))
   enclosed a b c x y = simp (append_assoc, append-nil)
 
-open_at_factor : (around : List Before) (b : Before) (next : Reading) → IsLawfulAt (at_factor around b)
-    → applied (reading_at (at_factor around b)) (open_effect (link_before b)) ≡ Some next → GoesOn (at_factor around b) by_terminal.Open next
+  -- nothing in a parenthesis
+  emptied : (a b : List A) (x y : A) → ((a ++ (b ++ x ∷ [])) ++ []) ++ y ∷ [] ≡ a ++ (b ++ x ∷ y ∷ [])
+  emptied a b x y = simp (append_assoc, append-nil)
+
+  emptied_text : (a b : List A) (x y z : A) → ((a ++ (b ++ x ∷ y ∷ [])) ++ []) ++ z ∷ [] ≡ a ++ (b ++ x ∷ y ∷ z ∷ [])
+  emptied_text a b x y z = simp (append_assoc, append-nil)
+
+  -- the last argument, and the mark behind it
+  argued : (a b c s : List A) (x y : A) → ((a ++ (b ++ x ∷ c)) ++ s) ++ y ∷ [] ≡ a ++ (b ++ (x ∷ ((c ++ s) ++ y ∷ [])))
+  argued a b c s x y = simp append_assoc
+
+  argued_text : (a b c s : List A) (x y z : A) → (a ++ (b ++ x ∷ y ∷ c)) ++ (s ++ z ∷ []) ≡ a ++ (b ++ (x ∷ y ∷ ((c ++ s) ++ z ∷ [])))
+  argued_text a b c s x y z = simp append_assoc
+
+-- ---- where a factor is expected
+
+-- a sign where a factor is expected
+sign_at_factor : (around : List Outer) (b : Before) (sign : Sign) (next : Reading) → IsLawfulAt (at_factor around b)
+    → applied (reading_at (at_factor around b)) (first_sign_effect (link_before b) sign) ≡ Some next → GoesOn (at_factor around b) (by_terminal.Sign sign) next
+sign_at_factor around (lead (start None)) sign next h e = record {
+  there = at_factor around (lead (start (Some sign)));
+  lawful = (h.0, tt);
+  kept = sym (same_Some _ next e);
+  written = append_assoc (written_around around) [] (by_terminal.Sign sign ∷ []);
+}
+sign_at_factor around (lead (start (Some signs.Plus))) sign next h e = absurd cc
+sign_at_factor around (lead (start (Some signs.Minus))) sign next h e = absurd cc
+sign_at_factor around (lead (after s signs.Plus)) sign next h e = absurd cc
+sign_at_factor around (lead (after s signs.Minus)) sign next h e = absurd cc
+sign_at_factor around (by_times l p) sign next h e = absurd cc
+sign_at_factor around (by_over l p) sign next h e = absurd cc
+
+open_at_factor : (around : List Outer) (b : Before) (next : Reading) → IsLawfulAt (at_factor around b)
+    → applied (reading_at (at_factor around b)) (unless_over (link_before b) (by_effect.Opens (link_before b))) ≡ Some next → GoesOn (at_factor around b) by_terminal.Open next
 open_at_factor around b next h e = by_kind (opening b) where
-  by_kind : (TakesParenthesis b × (open_effect (link_before b) ≡ by_effect.Opens (link_before b))) ⊎ (open_effect (link_before b) ≡ by_effect.Fails) → GoesOn (at_factor around b) by_terminal.Open next
-  by_kind (inr f) = let g = rw f at e in absurd cc
+  by_kind : Takes b ⊎ TakesNone b → GoesOn (at_factor around b) by_terminal.Open next
+  by_kind (inr f) = let g = rw (f.effect (by_effect.Opens (link_before b))) at e in absurd cc
   by_kind (inl t) =
-      let g = rw t.1 at e in
-      let k = passes (ltb (length around) 64) (at ((kept_around around ++ kept_before b) ++ pieces.Open (link_before b) ∷ []) (length around + 1) (by_expected.Factor links.First)) next g in
+      let g = rw (t.effect (by_effect.Opens (link_before b))) at e in
+      let made = at ((kept_around around ++ kept_before b) ++ pieces.Open (link_before b) ∷ []) (brackets_by.Parenthesis ∷ brackets around) (by_expected.Factor links.First) in
+      let k = passes (ltb (depth around) 64) (Some made) next g in
       record {
-        there = at_factor (b ∷ around) (lead (start None));
-        lawful = ((h.1, t.0, ltb-true (length around) 64 k.0, h.0), tt);
-        kept = sym k.1 ∙ ap (λ (kept : List Piece). at kept (length around + 1) (by_expected.Factor links.First)) (marked (kept_around around) (kept_before b) (pieces.Open (link_before b)) ∙ sym (append-nil _))
-            ∙ ap (λ (n : ℕ). at (kept_around (b ∷ around) ++ []) n (by_expected.Factor links.First)) (add-one (length around));
+        there = at_factor (in_parenthesis b ∷ around) (lead (start None));
+        lawful = ((h.1, t.takes, ltb-true (depth around) 64 k.0, tt, h.0), tt);
+        kept = sym (same_Some made next k.1) ∙ ap (λ (kept : List Piece). at kept (brackets_by.Parenthesis ∷ brackets around) (by_expected.Factor links.First)) (marked (kept_around around) (kept_before b) (pieces.Open (link_before b)) ∙ sym (append-nil _));
         written = marked (written_around around) (written_before b) by_terminal.Open ∙ sym (append-nil _);
       }
 
-plain_at_factor : (around : List Before) (b : Before) (base : Base) (t : Terminal) (piece : Piece) (next : Reading) → IsLawfulAt (at_factor around b)
-    → written_base base ≡ t ∷ [] → pieces_of_factor (link_before b) (factor base None) ≡ piece ∷ [] → IsLawfulFactor (length around) (factor base None) → Fits b (factor base None)
-    → Some (at ((kept_around around ++ kept_before b) ++ piece ∷ []) (length around) (by_expected.Operator false)) ≡ Some next → GoesOn (at_factor around b) t next
+delta_at_factor : (around : List Outer) (b : Before) (spot : Spot) (next : Reading) → IsLawfulAt (at_factor around b)
+    → applied (reading_at (at_factor around b)) (unless_over (link_before b) (by_effect.Waits (by_expected.Delta (link_before b) spot))) ≡ Some next → GoesOn (at_factor around b) (by_terminal.Delta spot) next
+delta_at_factor around b spot next h e = by_kind (opening b) where
+  by_kind : Takes b ⊎ TakesNone b → GoesOn (at_factor around b) (by_terminal.Delta spot) next
+  by_kind (inr f) = let g = rw (f.effect (by_effect.Waits (by_expected.Delta (link_before b) spot))) at e in absurd cc
+  by_kind (inl t) =
+      let g = rw (t.effect (by_effect.Waits (by_expected.Delta (link_before b) spot))) at e in
+      record {
+        there = at_delta around b spot;
+        lawful = record { lawful_around = h.0; lawful_before = h.1; takes = t.takes };
+        kept = sym (same_Some _ next g);
+        written = marked (written_around around) (written_before b) (by_terminal.Delta spot);
+      }
+
+plain_at_factor : (around : List Outer) (b : Before) (base : Base) (t : Terminal) (piece : Piece) (next : Reading) → IsLawfulAt (at_factor around b)
+    → written_base base ≡ t ∷ [] → pieces_of_factor (link_before b) (factor base None) ≡ piece ∷ [] → IsLawfulFactor (depth around) (factor base None) → Fits b (factor base None)
+    → Some (at ((kept_around around ++ kept_before b) ++ piece ∷ []) (brackets around) (by_expected.Operator (last_of_base base))) ≡ Some next → GoesOn (at_factor around b) t next
 plain_at_factor around b base t piece next h w p l f e = record {
   there = at_operator around b base None;
   lawful = record { lawful_around = h.0; lawful_before = h.1; lawful_factor = l; fits = f };
-  kept = sym (same_Some (at ((kept_around around ++ kept_before b) ++ piece ∷ []) (length around) (by_expected.Operator false)) next e)
-      ∙ ap (λ (kept : List Piece). at kept (length around) (by_expected.Operator false)) (marked (kept_around around) (kept_before b) piece ∙ ap (λ (last : List Piece). kept_around around ++ (kept_before b ++ last)) (sym p));
+  kept = sym (same_Some (at ((kept_around around ++ kept_before b) ++ piece ∷ []) (brackets around) (by_expected.Operator (last_of_base base))) next e)
+      ∙ ap (λ (kept : List Piece). at kept (brackets around) (by_expected.Operator (last_of_base base))) (marked (kept_around around) (kept_before b) piece ∙ ap (λ (last : List Piece). kept_around around ++ (kept_before b ++ last)) (sym p));
   written = marked (written_around around) (written_before b) t ∙ ap (λ (last : List Terminal). written_around around ++ (written_before b ++ last)) (sym w ∙ sym (append-nil (written_base base)));
 }
 
-from_factor : (around : List Before) (b : Before) (t : Terminal) (next : Reading) → IsLawfulAt (at_factor around b)
+from_factor : (around : List Outer) (b : Before) (t : Terminal) (next : Reading) → IsLawfulAt (at_factor around b)
     → step (reading_at (at_factor around b)) t ≡ Some next → GoesOn (at_factor around b) t next
 from_factor around b (by_terminal.Number n) next h e =
-    plain_at_factor around b (number n) (by_terminal.Number n) (pieces.Number (link_before b) n None) next h refl refl tt (fits_number b n None) e
+    plain_at_factor around b (number n) (by_terminal.Number n) (pieces.Number (link_before b) n None) next h refl refl tt (fits_number b n) e
 from_factor around b (by_terminal.Name n) next h e =
-    plain_at_factor around b (name n) (by_terminal.Name n) (pieces.Name (link_before b) n None) next h refl refl tt (fits_name b n None) e
+    plain_at_factor around b (name (names.Declared n)) (by_terminal.Name n) (pieces.Name (link_before b) (names.Declared n) None) next h refl refl tt (fits_name b (names.Declared n)) e
+from_factor around b (by_terminal.Imaginary spot) next h e =
+    plain_at_factor around b (name (names.Imaginary spot)) (by_terminal.Imaginary spot) (pieces.Name (link_before b) (names.Imaginary spot) None) next h refl refl tt (fits_name b (names.Imaginary spot)) e
+from_factor around b (by_terminal.Delta spot) next h e = delta_at_factor around b spot next h e
 from_factor around b (by_terminal.Sign sign) next h e = sign_at_factor around b sign next h e
 from_factor around b by_terminal.Open next h e = open_at_factor around b next h e
 from_factor around b by_terminal.Times next h e = absurd cc
@@ -147,85 +211,100 @@ from_factor around b by_terminal.Over next h e = absurd cc
 from_factor around b by_terminal.Raise next h e = absurd cc
 from_factor around b by_terminal.Close next h e = absurd cc
 from_factor around b by_terminal.Comma next h e = absurd cc
+from_factor around b by_terminal.Period next h e = absurd cc
 from_factor around b by_terminal.Equals next h e = absurd cc
 from_factor around b by_terminal.Other next h e = absurd cc
 
--- a power is kept at the factor that it stands on, and is negative on no parenthesis
-abbrev Allowed : Base → Power → Type 0
-Allowed (parenthesis s) p = is_negative p ≡ false
-Allowed _ p = Unit {0}
+-- ---- where the first argument is expected
 
-by_negative : {X Y : Type 0} (f : X → Y) (b : Bool) (x : X) (y : Y) → option_map f (cond b None (Some x)) ≡ Some y → (b ≡ false) × (f x ≡ y)
-by_negative f true x y e = absurd cc
-by_negative f false x y e = (refl, same_Some (f x) y e)
+end_at_argument : (around : List Outer) (b : Before) (n : Named) (next : Reading) → IsLawfulAt (at_argument around b n)
+    → step (reading_at (at_argument around b n)) by_terminal.Close ≡ Some next → GoesOn (at_argument around b n) by_terminal.Close next
+end_at_argument around b n next h e = record {
+  there = at_operator around b (empty_call n) None;
+  lawful = record { lawful_around = h.4; lawful_before = h.0; lawful_factor = (h.2, tt, tt); fits = fits_taken b (factor (empty_call n) None) h.1 };
+  kept = sym (same_Some _ next e) ∙ ap (λ (kept : List Piece). at kept (brackets around) (by_expected.Operator last.Base)) (emptied (kept_around around) (kept_before b) (pieces.Call (link_before b) n) (pieces.EndOfCall None));
+  written = emptied_text (written_around around) (written_before b) (written_name n) by_terminal.Open by_terminal.Close;
+}
 
-raised_close : (whole : List Piece) (p : Power) (kept : List Piece) → raised p (whole ++ pieces.Close None ∷ []) ≡ Some kept → (is_negative p ≡ false) × (whole ++ pieces.Close (Some p) ∷ [] ≡ kept)
-raised_close whole p kept e = by_negative (λ y. whole ++ y ∷ []) (is_negative p) (pieces.Close (Some p)) kept (sym (raised_last p whole (pieces.Close None)) ∙ e)
+-- what stands first in an argument stands first in a sum
+as_factor : (around : List Outer) (b : Before) (n : Named) (t : Terminal) (next : Reading) → GoesOn (at_factor (in_arguments b n None ∷ around) (lead (start None))) t next → GoesOn (at_argument around b n) t next
+as_factor around b n t next g = record { there = g.there; lawful = g.lawful; kept = g.kept; written = g.written }
 
-raised_factor : (front : List Piece) (link : Link) (base : Base) (p : Power) (kept : List Piece) → raised p (front ++ pieces_of_factor link (factor base None)) ≡ Some kept
-    → (front ++ pieces_of_factor link (factor base (Some p)) ≡ kept) × Allowed base p
-raised_factor front link (number n) p kept e = (same_Some _ kept (sym (raised_last p front (pieces.Number link n None)) ∙ e), tt)
-raised_factor front link (name n) p kept e = (same_Some _ kept (sym (raised_last p front (pieces.Name link n None)) ∙ e), tt)
-raised_factor front link (parenthesis s) p kept e =
-    let whole : List Piece = front ++ pieces.Open link ∷ pieces_of_sum s in
-    let split : whole ++ pieces.Close None ∷ [] ≡ front ++ (pieces.Open link ∷ pieces_of_sum s ++ pieces.Close None ∷ []) = append_assoc front (pieces.Open link ∷ pieces_of_sum s) (pieces.Close None ∷ []) in
-    let joined : whole ++ pieces.Close (Some p) ∷ [] ≡ front ++ (pieces.Open link ∷ pieces_of_sum s ++ pieces.Close (Some p) ∷ []) = append_assoc front (pieces.Open link ∷ pieces_of_sum s) (pieces.Close (Some p) ∷ []) in
-    let r = raised_close whole p kept (ap (raised p) split ∙ e) in
-    (sym joined ∙ r.1, r.0)
+from_argument : (around : List Outer) (b : Before) (n : Named) (t : Terminal) (next : Reading) → IsLawfulAt (at_argument around b n)
+    → step (reading_at (at_argument around b n)) t ≡ Some next → GoesOn (at_argument around b n) t next
+from_argument around b n by_terminal.Close next h e = end_at_argument around b n next h e
+from_argument around b n (by_terminal.Number m) next h e = as_factor around b n (by_terminal.Number m) next (from_factor (in_arguments b n None ∷ around) (lead (start None)) (by_terminal.Number m) next (h, tt) e)
+from_argument around b n (by_terminal.Name m) next h e = as_factor around b n (by_terminal.Name m) next (from_factor (in_arguments b n None ∷ around) (lead (start None)) (by_terminal.Name m) next (h, tt) e)
+from_argument around b n (by_terminal.Imaginary m) next h e = as_factor around b n (by_terminal.Imaginary m) next (from_factor (in_arguments b n None ∷ around) (lead (start None)) (by_terminal.Imaginary m) next (h, tt) e)
+from_argument around b n (by_terminal.Delta m) next h e = as_factor around b n (by_terminal.Delta m) next (from_factor (in_arguments b n None ∷ around) (lead (start None)) (by_terminal.Delta m) next (h, tt) e)
+from_argument around b n (by_terminal.Sign m) next h e = as_factor around b n (by_terminal.Sign m) next (from_factor (in_arguments b n None ∷ around) (lead (start None)) (by_terminal.Sign m) next (h, tt) e)
+from_argument around b n by_terminal.Times next h e = as_factor around b n by_terminal.Times next (from_factor (in_arguments b n None ∷ around) (lead (start None)) by_terminal.Times next (h, tt) e)
+from_argument around b n by_terminal.Over next h e = as_factor around b n by_terminal.Over next (from_factor (in_arguments b n None ∷ around) (lead (start None)) by_terminal.Over next (h, tt) e)
+from_argument around b n by_terminal.Raise next h e = as_factor around b n by_terminal.Raise next (from_factor (in_arguments b n None ∷ around) (lead (start None)) by_terminal.Raise next (h, tt) e)
+from_argument around b n by_terminal.Open next h e = as_factor around b n by_terminal.Open next (from_factor (in_arguments b n None ∷ around) (lead (start None)) by_terminal.Open next (h, tt) e)
+from_argument around b n by_terminal.Comma next h e = as_factor around b n by_terminal.Comma next (from_factor (in_arguments b n None ∷ around) (lead (start None)) by_terminal.Comma next (h, tt) e)
+from_argument around b n by_terminal.Period next h e = as_factor around b n by_terminal.Period next (from_factor (in_arguments b n None ∷ around) (lead (start None)) by_terminal.Period next (h, tt) e)
+from_argument around b n by_terminal.Equals next h e = as_factor around b n by_terminal.Equals next (from_factor (in_arguments b n None ∷ around) (lead (start None)) by_terminal.Equals next (h, tt) e)
+from_argument around b n by_terminal.Other next h e = as_factor around b n by_terminal.Other next (from_factor (in_arguments b n None ∷ around) (lead (start None)) by_terminal.Other next (h, tt) e)
 
-raised_to : (around : List Before) (b : Before) (base : Base) (p : Power) (kept : List Piece) → raised p (kept_factor around b (factor base None)) ≡ Some kept
+-- ---- powers
+
+raised_to : (around : List Outer) (b : Before) (base : Base) (p : Power) (kept : List Piece) → with_last (changes.Power p) (kept_factor around b (factor base None)) ≡ Some kept
     → (kept_factor around b (factor base (Some p)) ≡ kept) × Allowed base p
 raised_to around b base p kept e =
     let front : List Piece = kept_around around ++ kept_before b in
     let split = append_assoc (kept_around around) (kept_before b) (pieces_of_factor (link_before b) (factor base None)) in
     let joined = append_assoc (kept_around around) (kept_before b) (pieces_of_factor (link_before b) (factor base (Some p))) in
-    let r = raised_factor front (link_before b) base p kept (ap (raised p) split ∙ e) in
+    let r = raised_factor front (link_before b) base p kept (ap (with_last (changes.Power p)) split ∙ e) in
     (sym joined ∙ r.0, r.1)
 
-lawful_raised : (opened : ℕ) (base : Base) (p : Power) → IsLawfulFactor opened (factor base None) → (p.is_parenthesized ≡ true → opened < most_open) → Allowed base p → IsLawfulFactor opened (factor base (Some p))
-lawful_raised opened (number n) p h room a = room
-lawful_raised opened (name n) p h room a = room
-lawful_raised opened (parenthesis s) p h room a = (h.0, h.1, room, not_negative p a)
-
-lawful_power : (around : List Before) (b : Before) (base : Base) (p : Power) → IsLawfulTo around b (factor base None) → (p.is_parenthesized ≡ true → length around < most_open) → Allowed base p → IsLawfulTo around b (factor base (Some p))
+lawful_power : (around : List Outer) (b : Before) (base : Base) (p : Power) → IsLawfulTo around b (factor base None) → (p.is_parenthesized ≡ true → depth around < most_open) → Allowed base p → IsLawfulTo around b (factor base (Some p))
 lawful_power around b base p h room a = record {
   lawful_around = h.lawful_around;
   lawful_before = h.lawful_before;
-  lawful_factor = lawful_raised (length around) base p h.lawful_factor room a;
+  lawful_factor = lawful_raised (depth around) base p h.lawful_factor room a;
   fits = fits_raised b base (Some p) h.fits;
 }
 
 -- a further terminal of a power
-abbrev written_to : List Before → Before → Base → List Terminal → List Terminal
-written_to around b base more = written_around around ++ (written_before b ++ (written_base base ++ by_terminal.Raise ∷ more))
+abbrev written_power_to : List Outer → Before → Base → List Terminal → List Terminal
+written_power_to around b base text = written_around around ++ (written_before b ++ (written_base base ++ by_terminal.Raise ∷ text))
 
-written_further : (around : List Before) (b : Before) (base : Base) (front more : List Terminal) → written_to around b base front ++ more ≡ written_to around b base (front ++ more)
-written_further around b base front more = fourth (written_around around) (written_before b) (written_base base) (by_terminal.Raise ∷ front) more
+written_further : (around : List Outer) (b : Before) (base : Base) (front text : List Terminal) → written_power_to around b base front ++ text ≡ written_power_to around b base (front ++ text)
+written_further around b base front text = fourth (written_around around) (written_before b) (written_base base) (by_terminal.Raise ∷ front) text
 
-number_at_exponent : (around : List Before) (b : Before) (base : Base) (is_parenthesized : Bool) (sign : Option Sign) (n : Number) (next : Reading) → IsLawfulAt (at_exponent around b base is_parenthesized sign)
+-- what a power makes of the pieces, and what is expected then
+raised_reading : (around : List Outer) (b : Before) (base : Base) (p : Power) (expected : Expected) (next : Reading) (r : Reading) → r.pieces ≡ kept_factor around b (factor base None) → r.opened ≡ brackets around
+    → option_map (λ n. at n.pieces n.opened expected) (changed_reading (changes.Power p) r) ≡ Some next
+    → (next ≡ at (kept_factor around b (factor base (Some p))) (brackets around) expected) × Allowed base p
+raised_reading around b base p expected next r same opened e =
+    let m = mapped (λ n. at n.pieces n.opened expected) (changed_reading (changes.Power p) r) next e in
+    let k = mapped (λ kept. at kept r.opened r.expected) (with_last (changes.Power p) r.pieces) m.0 m.1 in
+    let q = raised_to around b base p k.0 (ap (with_last (changes.Power p)) (sym same) ∙ k.1) in
+    (sym m.2 ∙ ap (λ (n : Reading). at n.pieces n.opened expected) (sym k.2) ∙ ap (λ (kept : List Piece). at kept r.opened expected) (sym q.0) ∙ ap (λ (o : List Bracket). at (kept_factor around b (factor base (Some p))) o expected) opened, q.1)
+
+number_at_exponent : (around : List Outer) (b : Before) (base : Base) (is_parenthesized : Bool) (sign : Option Sign) (n : Number) (next : Reading) → IsLawfulAt (at_exponent around b base is_parenthesized sign)
     → step (reading_at (at_exponent around b base is_parenthesized sign)) (by_terminal.Number n) ≡ Some next → GoesOn (at_exponent around b base is_parenthesized sign) (by_terminal.Number n) next
 number_at_exponent around b base true sign n next h e =
     let p : Power = record { is_parenthesized = true; sign = sign; number = n } in
-    let m = mapped (λ kept. at kept (length around) by_expected.Closing) (raised p (kept_factor around b (factor base None))) next e in
-    let r = raised_to around b base p m.0 m.1 in
+    let r = raised_reading around b base p by_expected.Closing next (reading_at (at_exponent around b base true sign)) refl refl e in
     record {
       there = at_closing around b base sign n;
       lawful = lawful_power around b base p h.0 h.1 r.1;
-      kept = sym m.2 ∙ ap (λ (kept : List Piece). at kept (length around) by_expected.Closing) (sym r.0);
+      kept = r.0;
       written = written_further around b base (by_terminal.Open ∷ written_sign sign) (by_terminal.Number n ∷ []);
     }
 number_at_exponent around b base false sign n next h e =
     let p : Power = record { is_parenthesized = false; sign = sign; number = n } in
-    let m = mapped (λ kept. at kept (length around) (by_expected.Operator true)) (raised p (kept_factor around b (factor base None))) next e in
-    let r = raised_to around b base p m.0 m.1 in
+    let r = raised_reading around b base p (by_expected.Operator last.Power) next (reading_at (at_exponent around b base false sign)) refl refl e in
     record {
       there = at_operator around b base (Some p);
       lawful = lawful_power around b base p h.0 h.1 r.1;
-      kept = sym m.2 ∙ ap (λ (kept : List Piece). at kept (length around) (by_expected.Operator true)) (sym r.0);
+      kept = r.0;
       written = written_further around b base (written_sign sign) (by_terminal.Number n ∷ []);
     }
 
-sign_at_exponent : (around : List Before) (b : Before) (base : Base) (is_parenthesized : Bool) (sign : Option Sign) (s : Sign) (next : Reading) → IsLawfulAt (at_exponent around b base is_parenthesized sign)
+sign_at_exponent : (around : List Outer) (b : Before) (base : Base) (is_parenthesized : Bool) (sign : Option Sign) (s : Sign) (next : Reading) → IsLawfulAt (at_exponent around b base is_parenthesized sign)
     → step (reading_at (at_exponent around b base is_parenthesized sign)) (by_terminal.Sign s) ≡ Some next → GoesOn (at_exponent around b base is_parenthesized sign) (by_terminal.Sign s) next
 sign_at_exponent around b base true None s next h e = record {
   there = at_exponent around b base true (Some s);
@@ -241,59 +320,67 @@ sign_at_exponent around b base false None s next h e = record {
 }
 sign_at_exponent around b base is_parenthesized (Some other) s next h e = absurd cc
 
-open_at_exponent : (around : List Before) (b : Before) (base : Base) (is_parenthesized : Bool) (sign : Option Sign) (next : Reading) → IsLawfulAt (at_exponent around b base is_parenthesized sign)
+open_at_exponent : (around : List Outer) (b : Before) (base : Base) (is_parenthesized : Bool) (sign : Option Sign) (next : Reading) → IsLawfulAt (at_exponent around b base is_parenthesized sign)
     → step (reading_at (at_exponent around b base is_parenthesized sign)) by_terminal.Open ≡ Some next → GoesOn (at_exponent around b base is_parenthesized sign) by_terminal.Open next
 open_at_exponent around b base false None next h e =
-    let k = passes (ltb (length around) 64) (at (kept_factor around b (factor base None)) (length around) (by_expected.Exponent true None)) next e in
+    let made = at (kept_factor around b (factor base None)) (brackets around) (by_expected.Exponent true None) in
+    let k = passes (ltb (depth around) 64) (Some made) next e in
     record {
       there = at_exponent around b base true None;
-      lawful = (h.0, λ _. ltb-true (length around) 64 k.0);
-      kept = sym k.1;
+      lawful = (h.0, λ _. ltb-true (depth around) 64 k.0);
+      kept = sym (same_Some made next k.1);
       written = written_further around b base [] (by_terminal.Open ∷ []);
     }
 open_at_exponent around b base true sign next h e = absurd cc
 open_at_exponent around b base false (Some sign) next h e = absurd cc
 
-from_exponent : (around : List Before) (b : Before) (base : Base) (is_parenthesized : Bool) (sign : Option Sign) (t : Terminal) (next : Reading) → IsLawfulAt (at_exponent around b base is_parenthesized sign)
+from_exponent : (around : List Outer) (b : Before) (base : Base) (is_parenthesized : Bool) (sign : Option Sign) (t : Terminal) (next : Reading) → IsLawfulAt (at_exponent around b base is_parenthesized sign)
     → step (reading_at (at_exponent around b base is_parenthesized sign)) t ≡ Some next → GoesOn (at_exponent around b base is_parenthesized sign) t next
 from_exponent around b base is_parenthesized sign (by_terminal.Number n) next h e = number_at_exponent around b base is_parenthesized sign n next h e
 from_exponent around b base is_parenthesized sign (by_terminal.Sign s) next h e = sign_at_exponent around b base is_parenthesized sign s next h e
 from_exponent around b base is_parenthesized sign by_terminal.Open next h e = open_at_exponent around b base is_parenthesized sign next h e
-from_exponent around b base is_parenthesized sign (by_terminal.Name n) next h e = absurd cc
+from_exponent around b base is_parenthesized sign (by_terminal.Name m) next h e = absurd cc
+from_exponent around b base is_parenthesized sign (by_terminal.Imaginary m) next h e = absurd cc
+from_exponent around b base is_parenthesized sign (by_terminal.Delta m) next h e = absurd cc
 from_exponent around b base is_parenthesized sign by_terminal.Times next h e = absurd cc
 from_exponent around b base is_parenthesized sign by_terminal.Over next h e = absurd cc
 from_exponent around b base is_parenthesized sign by_terminal.Raise next h e = absurd cc
 from_exponent around b base is_parenthesized sign by_terminal.Close next h e = absurd cc
 from_exponent around b base is_parenthesized sign by_terminal.Comma next h e = absurd cc
+from_exponent around b base is_parenthesized sign by_terminal.Period next h e = absurd cc
 from_exponent around b base is_parenthesized sign by_terminal.Equals next h e = absurd cc
 from_exponent around b base is_parenthesized sign by_terminal.Other next h e = absurd cc
 
-from_closing : (around : List Before) (b : Before) (base : Base) (sign : Option Sign) (n : Number) (t : Terminal) (next : Reading) → IsLawfulAt (at_closing around b base sign n)
+from_closing : (around : List Outer) (b : Before) (base : Base) (sign : Option Sign) (n : Number) (t : Terminal) (next : Reading) → IsLawfulAt (at_closing around b base sign n)
     → step (reading_at (at_closing around b base sign n)) t ≡ Some next → GoesOn (at_closing around b base sign n) t next
 from_closing around b base sign n by_terminal.Close next h e = record {
   there = at_operator around b base (Some (record { is_parenthesized = true; sign = sign; number = n }));
   lawful = h;
   kept = sym (same_Some _ next e);
   written = written_further around b base (by_terminal.Open ∷ written_sign sign ++ by_terminal.Number n ∷ []) (by_terminal.Close ∷ [])
-      ∙ ap (λ (more : List Terminal). written_to around b base (by_terminal.Open ∷ more)) (append_assoc (written_sign sign) (by_terminal.Number n ∷ []) (by_terminal.Close ∷ []));
+      ∙ ap (λ (text : List Terminal). written_power_to around b base (by_terminal.Open ∷ text)) (append_assoc (written_sign sign) (by_terminal.Number n ∷ []) (by_terminal.Close ∷ []));
 }
 from_closing around b base sign n (by_terminal.Number m) next h e = absurd cc
 from_closing around b base sign n (by_terminal.Name m) next h e = absurd cc
+from_closing around b base sign n (by_terminal.Imaginary m) next h e = absurd cc
+from_closing around b base sign n (by_terminal.Delta m) next h e = absurd cc
 from_closing around b base sign n (by_terminal.Sign m) next h e = absurd cc
 from_closing around b base sign n by_terminal.Times next h e = absurd cc
 from_closing around b base sign n by_terminal.Over next h e = absurd cc
 from_closing around b base sign n by_terminal.Raise next h e = absurd cc
 from_closing around b base sign n by_terminal.Open next h e = absurd cc
 from_closing around b base sign n by_terminal.Comma next h e = absurd cc
+from_closing around b base sign n by_terminal.Period next h e = absurd cc
 from_closing around b base sign n by_terminal.Equals next h e = absurd cc
 from_closing around b base sign n by_terminal.Other next h e = absurd cc
 
--- the sum up to the factor that is complete
-module _ (around : List Before) (b : Before) (base : Base) (power : Option Power) where
-  written_up : (more : List Terminal) → written_at (at_operator around b base power) ++ more ≡ written_around around ++ (written_sum (sum_to b (factor base power)) ++ more)
-  written_up more =
-      append_assoc (written_around around) (written_before b ++ written_factor (factor base power)) more
-      ∙ ap (λ (sum : List Terminal). written_around around ++ (sum ++ more)) (sym (written_whole b (factor base power)))
+-- ---- the sum up to the factor that is complete
+
+module _ (around : List Outer) (b : Before) (base : Base) (power : Option Power) where
+  written_up : (text : List Terminal) → written_at (at_operator around b base power) ++ text ≡ written_around around ++ (written_sum (sum_to b (factor base power)) ++ text)
+  written_up text =
+      append_assoc (written_around around) (written_before b ++ written_factor (factor base power)) text
+      ∙ ap (λ (sum : List Terminal). written_around around ++ (sum ++ text)) (sym (written_whole b (factor base power)))
 
   kept_up : kept_factor around b (factor base power) ≡ kept_around around ++ pieces_of_sum (sum_to b (factor base power))
   kept_up = ap (λ (sum : List Piece). kept_around around ++ sum) (sym (kept_whole b (factor base power)))
@@ -302,8 +389,8 @@ module _ (around : List Before) (b : Before) (base : Base) (power : Option Power
       → step (reading_at (at_operator around b base power)) (by_terminal.Sign sign) ≡ Some next → GoesOn (at_operator around b base power) (by_terminal.Sign sign) next
   sign_at_operator sign next h e = record {
     there = at_factor around (lead (after (sum_to b (factor base power)) sign));
-    lawful = (h.lawful_around, lawful_whole (length around) b (factor base power) h.lawful_before h.lawful_factor h.fits);
-    kept = sym (same_Some _ next e) ∙ ap (λ (kept : List Piece). at kept (length around) (by_expected.Factor (link_of sign))) kept_up;
+    lawful = (h.lawful_around, lawful_whole (depth around) b (factor base power) h.lawful_before h.lawful_factor h.fits);
+    kept = sym (same_Some _ next e) ∙ ap (λ (kept : List Piece). at kept (brackets around) (by_expected.Factor (link_of sign))) kept_up;
     written = written_up (by_terminal.Sign sign ∷ []);
   }
 
@@ -311,8 +398,8 @@ module _ (around : List Before) (b : Before) (base : Base) (power : Option Power
       → step (reading_at (at_operator around b base power)) by_terminal.Times ≡ Some next → GoesOn (at_operator around b base power) by_terminal.Times next
   times_at_operator next h e = record {
     there = at_factor around (by_times (lead_of b) (product_of b (factor base power)));
-    lawful = (h.lawful_around, (lawful_lead (length around) b h.lawful_before, lawful_product (length around) b (factor base power) h.lawful_before h.lawful_factor h.fits));
-    kept = sym (same_Some _ next e) ∙ ap (λ (kept : List Piece). at (kept_around around ++ kept) (length around) (by_expected.Factor links.Times)) (sym (kept_filled b (factor base power)));
+    lawful = (h.lawful_around, (lawful_lead (depth around) b h.lawful_before, lawful_product (depth around) b (factor base power) h.lawful_before h.lawful_factor h.fits));
+    kept = sym (same_Some _ next e) ∙ ap (λ (kept : List Piece). at (kept_around around ++ kept) (brackets around) (by_expected.Factor links.Times)) (sym (kept_filled b (factor base power)));
     written = append_assoc (written_around around) (written_before b ++ written_factor (factor base power)) (by_terminal.Times ∷ [])
         ∙ ap (λ (front : List Terminal). written_around around ++ front) (ap (λ (front : List Terminal). front ++ by_terminal.Times ∷ []) (sym (written_filled b (factor base power))) ∙ append_assoc (written_lead (lead_of b)) (written_product (product_of b (factor base power))) (by_terminal.Times ∷ []));
   }
@@ -321,81 +408,374 @@ module _ (around : List Before) (b : Before) (base : Base) (power : Option Power
       → step (reading_at (at_operator around b base power)) by_terminal.Over ≡ Some next → GoesOn (at_operator around b base power) by_terminal.Over next
   over_at_operator next h e = record {
     there = at_factor around (by_over (lead_of b) (product_of b (factor base power)));
-    lawful = (h.lawful_around, (lawful_lead (length around) b h.lawful_before, lawful_product (length around) b (factor base power) h.lawful_before h.lawful_factor h.fits));
-    kept = sym (same_Some _ next e) ∙ ap (λ (kept : List Piece). at (kept_around around ++ kept) (length around) (by_expected.Factor links.Over)) (sym (kept_filled b (factor base power)));
+    lawful = (h.lawful_around, (lawful_lead (depth around) b h.lawful_before, lawful_product (depth around) b (factor base power) h.lawful_before h.lawful_factor h.fits));
+    kept = sym (same_Some _ next e) ∙ ap (λ (kept : List Piece). at (kept_around around ++ kept) (brackets around) (by_expected.Factor links.Over)) (sym (kept_filled b (factor base power)));
     written = append_assoc (written_around around) (written_before b ++ written_factor (factor base power)) (by_terminal.Over ∷ [])
         ∙ ap (λ (front : List Terminal). written_around around ++ front) (ap (λ (front : List Terminal). front ++ by_terminal.Over ∷ []) (sym (written_filled b (factor base power))) ∙ append_assoc (written_lead (lead_of b)) (written_product (product_of b (factor base power))) (by_terminal.Over ∷ []));
   }
 
-raise_at_operator : (around : List Before) (b : Before) (base : Base) (power : Option Power) (next : Reading) → IsLawfulAt (at_operator around b base power)
+  -- what ends a parenthesis or its argument stands behind this sum
+  last_sum : Sum
+  last_sum = sum_to b (factor base power)
+
+raise_at_operator : (around : List Outer) (b : Before) (base : Base) (power : Option Power) (next : Reading) → IsLawfulAt (at_operator around b base power)
     → step (reading_at (at_operator around b base power)) by_terminal.Raise ≡ Some next → GoesOn (at_operator around b base power) by_terminal.Raise next
-raise_at_operator around b base None next h e = record {
-  there = at_exponent around b base false None;
-  lawful = (h, λ f. absurd cc);
-  kept = sym (same_Some _ next e);
-  written = fourth (written_around around) (written_before b) (written_base base) [] (by_terminal.Raise ∷ []);
-}
+raise_at_operator around b base None next h e =
+    let g = rw (base_may_raise base) at e in
+    record {
+      there = at_exponent around b base false None;
+      lawful = (h, λ f. absurd cc);
+      kept = sym (same_Some _ next g);
+      written = fourth (written_around around) (written_before b) (written_base base) [] (by_terminal.Raise ∷ []);
+    }
 raise_at_operator around b base (Some p) next h e = absurd cc
 
-kept_closed : (around : List Before) (c b : Before) (base : Base) (power : Option Power)
-    → kept_factor (c ∷ around) b (factor base power) ++ pieces.Close None ∷ [] ≡ kept_factor around c (factor (parenthesis (sum_to b (factor base power))) None)
+-- ---- a name with what follows it
+
+name_changed : (c : Change) (around : List Outer) (b : Before) (n : Named) (o : Option Piece) → changed c (pieces.Name (link_before b) n None) ≡ o
+    → with_last c (kept_factor around b (factor (name n) None)) ≡ option_map (λ y. kept_to around b (y ∷ [])) o
+name_changed c around b n o e =
+    let front : List Piece = kept_around around ++ kept_before b in
+    let x : Piece = pieces.Name (link_before b) n None in
+    ap (with_last c) (sym (append_assoc (kept_around around) (kept_before b) (x ∷ []))) ∙ changed_last c front x ∙ ap (option_map (λ y. front ++ y ∷ [])) e ∙ regroup o
+  where
+    regroup : (o : Option Piece) → option_map (λ y. (kept_around around ++ kept_before b) ++ y ∷ []) o ≡ option_map (λ y. kept_to around b (y ∷ [])) o
+    regroup None = refl
+    regroup (Some y) = ap (λ (all : List Piece). Some all) (append_assoc (kept_around around) (kept_before b) (y ∷ []))
+
+dot_at_operator : (around : List Outer) (b : Before) (base : Base) (power : Option Power) (next : Reading) → IsLawfulAt (at_operator around b base power)
+    → step (reading_at (at_operator around b base power)) by_terminal.Period ≡ Some next → GoesOn (at_operator around b base power) by_terminal.Period next
+dot_at_operator around b (name n) None next h e =
+    let g = rw (name_changed changes.Dot around b n (Some (pieces.Dot (link_before b) n)) refl) at e in
+    record {
+      there = at_vector around b n;
+      lawful = (h.lawful_around, h.lawful_before);
+      kept = sym (same_Some _ next g);
+      written = third (written_around around) (written_before b) (written_name n ∷ []) (by_terminal.Period ∷ []);
+    }
+dot_at_operator around b (number m) None next h e = absurd cc
+dot_at_operator around b (number m) (Some p) next h e = absurd cc
+dot_at_operator around b (name m) (Some p) next h e = absurd cc
+dot_at_operator around b (dot m q) None next h e = absurd cc
+dot_at_operator around b (dot m q) (Some p) next h e = absurd cc
+dot_at_operator around b (delta spot a c) None next h e = absurd cc
+dot_at_operator around b (delta spot a c) (Some p) next h e = absurd cc
+dot_at_operator around b (empty_call m) None next h e = absurd cc
+dot_at_operator around b (empty_call m) (Some p) next h e = absurd cc
+dot_at_operator around b (call m args) None next h e = absurd cc
+dot_at_operator around b (call m args) (Some p) next h e = absurd cc
+dot_at_operator around b (parenthesis s) None next h e = absurd cc
+dot_at_operator around b (parenthesis s) (Some p) next h e = absurd cc
+
+call_at_operator : (around : List Outer) (b : Before) (base : Base) (power : Option Power) (next : Reading) → IsLawfulAt (at_operator around b base power)
+    → step (reading_at (at_operator around b base power)) by_terminal.Open ≡ Some next → GoesOn (at_operator around b base power) by_terminal.Open next
+call_at_operator around b (name n) None next h e = by_kind (opening b) where
+  by_kind : Takes b ⊎ TakesNone b → GoesOn (at_operator around b (name n) None) by_terminal.Open next
+  by_kind (inr f) =
+      let r = reading_at (at_operator around b (name n) None) in
+      let k = passes (ltb (depth around) 64) (option_map (λ n. at n.pieces (brackets_by.Arguments ∷ n.opened) by_expected.Argument) (changed_reading changes.Call r)) next e in
+      let m = mapped (λ n. at n.pieces (brackets_by.Arguments ∷ n.opened) by_expected.Argument) (changed_reading changes.Call r) next k.1 in
+      let w = mapped (λ kept. at kept r.opened r.expected) (with_last changes.Call r.pieces) m.0 m.1 in
+      absurd (none-some w.0 (sym (name_changed changes.Call around b n None (f.kept (pieces.Call (link_before b) n))) ∙ w.1))
+  by_kind (inl t) =
+      let g = rw (name_changed changes.Call around b n (Some (pieces.Call (link_before b) n)) (t.kept (pieces.Call (link_before b) n))) at e in
+      let made = at (kept_to around b (pieces.Call (link_before b) n ∷ [])) (brackets_by.Arguments ∷ brackets around) by_expected.Argument in
+      let k = passes (ltb (depth around) 64) (Some made) next g in
+      record {
+        there = at_argument around b n;
+        lawful = (h.lawful_before, t.takes, ltb-true (depth around) 64 k.0, tt, h.lawful_around);
+        kept = sym (same_Some made next k.1) ∙ ap (λ (kept : List Piece). at kept (brackets_by.Arguments ∷ brackets around) by_expected.Argument) (sym (append-nil (kept_to around b (pieces.Call (link_before b) n ∷ []))));
+        written = third (written_around around) (written_before b) (written_name n ∷ []) (by_terminal.Open ∷ []) ∙ sym (append-nil _);
+      }
+call_at_operator around b (number m) None next h e = absurd cc
+call_at_operator around b (number m) (Some p) next h e = absurd cc
+call_at_operator around b (name m) (Some p) next h e = absurd cc
+call_at_operator around b (dot m q) None next h e = absurd cc
+call_at_operator around b (dot m q) (Some p) next h e = absurd cc
+call_at_operator around b (delta spot a c) None next h e = absurd cc
+call_at_operator around b (delta spot a c) (Some p) next h e = absurd cc
+call_at_operator around b (empty_call m) None next h e = absurd cc
+call_at_operator around b (empty_call m) (Some p) next h e = absurd cc
+call_at_operator around b (call m args) None next h e = absurd cc
+call_at_operator around b (call m args) (Some p) next h e = absurd cc
+call_at_operator around b (parenthesis s) None next h e = absurd cc
+call_at_operator around b (parenthesis s) (Some p) next h e = absurd cc
+
+-- ---- what ends a parenthesis
+
+kept_closed : (around : List Outer) (c b : Before) (base : Base) (power : Option Power)
+    → kept_factor (in_parenthesis c ∷ around) b (factor base power) ++ pieces.Close None ∷ [] ≡ kept_factor around c (factor (parenthesis (sum_to b (factor base power))) None)
 kept_closed around c b base power =
-    ap (λ (all : List Piece). all ++ pieces.Close None ∷ []) (kept_up (c ∷ around) b base power)
+    ap (λ (all : List Piece). all ++ pieces.Close None ∷ []) (kept_up (in_parenthesis c ∷ around) b base power)
     ∙ closed_up (kept_around around) (kept_before c) (pieces_of_sum (sum_to b (factor base power))) (pieces.Open (link_before c)) (pieces.Close None)
 
-written_closed : (around : List Before) (c : Before) (s : Sum)
-    → written_around (c ∷ around) ++ (written_sum s ++ by_terminal.Close ∷ []) ≡ written_around around ++ (written_before c ++ written_factor (factor (parenthesis s) None))
+written_closed : (around : List Outer) (c : Before) (s : Sum)
+    → written_around (in_parenthesis c ∷ around) ++ (written_sum s ++ by_terminal.Close ∷ []) ≡ written_around around ++ (written_before c ++ written_factor (factor (parenthesis s) None))
 written_closed around c s =
     enclosed (written_around around) (written_before c) (written_sum s) by_terminal.Open by_terminal.Close
 
-close_at_operator : (around : List Before) (b : Before) (base : Base) (power : Option Power) (next : Reading) → IsLawfulAt (at_operator around b base power)
+-- the last argument and a mark, behind those before it
+kept_argued : (around : List Outer) (c b : Before) (n : Named) (args : Option Arguments) (base : Base) (power : Option Power) (y : Piece)
+    → kept_factor (in_arguments c n args ∷ around) b (factor base power) ++ y ∷ []
+    ≡ kept_to around c (pieces.Call (link_before c) n ∷ (pieces_of_arguments (with_argument args (sum_to b (factor base power))) ++ y ∷ []))
+kept_argued around c b n args base power y =
+    ap (λ (all : List Piece). all ++ y ∷ []) (kept_up (in_arguments c n args ∷ around) b base power)
+    ∙ argued (kept_around around) (kept_before c) (kept_parted args) (pieces_of_sum (sum_to b (factor base power))) (pieces.Call (link_before c) n) y
+    ∙ ap (λ (all : List Piece). kept_to around c (pieces.Call (link_before c) n ∷ (all ++ y ∷ []))) (kept_arguments args (sum_to b (factor base power)))
+
+written_argued : (around : List Outer) (c b : Before) (n : Named) (args : Option Arguments) (base : Base) (power : Option Power) (z : Terminal)
+    → written_at (at_operator (in_arguments c n args ∷ around) b base power) ++ z ∷ []
+    ≡ written_to around c (written_name n ∷ by_terminal.Open ∷ (written_arguments (with_argument args (sum_to b (factor base power))) ++ z ∷ []))
+written_argued around c b n args base power z =
+    written_up (in_arguments c n args ∷ around) b base power (z ∷ [])
+    ∙ argued_text (written_around around) (written_before c) (written_parted args) (written_sum (sum_to b (factor base power))) (written_name n) by_terminal.Open z
+    ∙ ap (λ (all : List Terminal). written_to around c (written_name n ∷ by_terminal.Open ∷ (all ++ z ∷ []))) (written_all_arguments args (sum_to b (factor base power)))
+
+close_at_operator : (around : List Outer) (b : Before) (base : Base) (power : Option Power) (next : Reading) → IsLawfulAt (at_operator around b base power)
     → step (reading_at (at_operator around b base power)) by_terminal.Close ≡ Some next → GoesOn (at_operator around b base power) by_terminal.Close next
 close_at_operator [] b base power next h e = absurd cc
-close_at_operator (c ∷ around) b base power next h e =
+close_at_operator (in_parenthesis c ∷ around) b base power next h e =
     let s : Sum = sum_to b (factor base power) in
-    let kept : List Piece = kept_factor (c ∷ around) b (factor base power) ++ pieces.Close None ∷ [] in
-    let k = passes (ltb 0 (length (c ∷ around))) (at kept (length (c ∷ around) - 1) (by_expected.Operator false)) next e in
-    let one_less : length (c ∷ around) - 1 ≡ length around = omega arith in
-    let sum : IsLawfulSum (length around + 1) s = rw add-one (lawful_whole (length (c ∷ around)) b (factor base power) h.lawful_before h.lawful_factor h.fits) in
+    let sum : IsLawfulSum (depth around + 1) s = rw (add-one (depth around)) (lawful_whole (depth (in_parenthesis c ∷ around)) b (factor base power) h.lawful_before h.lawful_factor h.fits) in
     record {
       there = at_operator around c (parenthesis s) None;
       lawful = record {
-        lawful_around = h.lawful_around.3;
+        lawful_around = h.lawful_around.4;
         lawful_before = h.lawful_around.0;
         lawful_factor = (h.lawful_around.2, sum, tt, tt);
-        fits = fits_parenthesis c s None h.lawful_around.1;
+        fits = fits_taken c (factor (parenthesis s) None) h.lawful_around.1;
       };
-      kept = sym k.1 ∙ ap (λ (n : ℕ). at kept n (by_expected.Operator false)) one_less ∙ ap (λ (all : List Piece). at all (length around) (by_expected.Operator false)) (kept_closed around c b base power);
-      written = written_up (c ∷ around) b base power (by_terminal.Close ∷ []) ∙ written_closed around c s;
+      kept = sym (same_Some _ next e) ∙ ap (λ (all : List Piece). at all (brackets around) (by_expected.Operator last.Base)) (kept_closed around c b base power);
+      written = written_up (in_parenthesis c ∷ around) b base power (by_terminal.Close ∷ []) ∙ written_closed around c s;
+    }
+close_at_operator (in_arguments c n args ∷ around) b base power next h e =
+    let s : Sum = sum_to b (factor base power) in
+    let all : Arguments = with_argument args s in
+    let sum : IsLawfulSum (depth (in_arguments c n args ∷ around)) s = lawful_whole (depth (in_arguments c n args ∷ around)) b (factor base power) h.lawful_before h.lawful_factor h.fits in
+    let lawful : IsLawfulArguments (depth around + 1) all = rw (add-one (depth around)) (lawful_arguments (depth (in_arguments c n args ∷ around)) args s h.lawful_around.3 sum) in
+    record {
+      there = at_operator around c (call n all) None;
+      lawful = record {
+        lawful_around = h.lawful_around.4;
+        lawful_before = h.lawful_around.0;
+        lawful_factor = (h.lawful_around.2, lawful, tt, tt);
+        fits = fits_taken c (factor (call n all) None) h.lawful_around.1;
+      };
+      kept = sym (same_Some _ next e) ∙ ap (λ (kept : List Piece). at kept (brackets around) (by_expected.Operator last.Base)) (kept_argued around c b n args base power (pieces.EndOfCall None));
+      written = written_argued around c b n args base power by_terminal.Close
+          ∙ ap (λ (text : List Terminal). written_to around c text) (sym (append-nil (written_base (call n all))));
     }
 
-from_operator : (around : List Before) (b : Before) (base : Base) (power : Option Power) (t : Terminal) (next : Reading) → IsLawfulAt (at_operator around b base power)
+comma_at_operator : (around : List Outer) (b : Before) (base : Base) (power : Option Power) (next : Reading) → IsLawfulAt (at_operator around b base power)
+    → step (reading_at (at_operator around b base power)) by_terminal.Comma ≡ Some next → GoesOn (at_operator around b base power) by_terminal.Comma next
+comma_at_operator [] b base power next h e = absurd cc
+comma_at_operator (in_parenthesis c ∷ around) b base power next h e = absurd cc
+comma_at_operator (in_arguments c n args ∷ around) b base power next h e =
+    let s : Sum = sum_to b (factor base power) in
+    let all : Arguments = with_argument args s in
+    let opened : List Bracket = brackets (in_arguments c n args ∷ around) in
+    let sum : IsLawfulSum (depth (in_arguments c n args ∷ around)) s = lawful_whole (depth (in_arguments c n args ∷ around)) b (factor base power) h.lawful_before h.lawful_factor h.fits in
+    let lawful : IsLawfulArguments (depth (in_arguments c n args ∷ around)) all = lawful_arguments (depth (in_arguments c n args ∷ around)) args s h.lawful_around.3 sum in
+    record {
+      there = at_factor (in_arguments c n (Some all) ∷ around) (lead (start None));
+      lawful = ((h.lawful_around.0, h.lawful_around.1, h.lawful_around.2, lawful, h.lawful_around.4), tt);
+      kept = sym (same_Some _ next e) ∙ ap (λ (kept : List Piece). at kept opened (by_expected.Factor links.First)) (kept_argued around c b n args base power pieces.Comma ∙ sym (append-nil _));
+      written = written_argued around c b n args base power by_terminal.Comma ∙ sym (append-nil _);
+    }
+
+from_operator : (around : List Outer) (b : Before) (base : Base) (power : Option Power) (t : Terminal) (next : Reading) → IsLawfulAt (at_operator around b base power)
     → step (reading_at (at_operator around b base power)) t ≡ Some next → GoesOn (at_operator around b base power) t next
 from_operator around b base power (by_terminal.Sign sign) next h e = sign_at_operator around b base power sign next h e
 from_operator around b base power by_terminal.Times next h e = times_at_operator around b base power next h e
 from_operator around b base power by_terminal.Over next h e = over_at_operator around b base power next h e
 from_operator around b base power by_terminal.Raise next h e = raise_at_operator around b base power next h e
+from_operator around b base power by_terminal.Open next h e = call_at_operator around b base power next h e
 from_operator around b base power by_terminal.Close next h e = close_at_operator around b base power next h e
-from_operator around b base power (by_terminal.Number n) next h e = absurd cc
-from_operator around b base power (by_terminal.Name n) next h e = absurd cc
-from_operator around b base power by_terminal.Open next h e = absurd cc
-from_operator around b base power by_terminal.Comma next h e = absurd cc
+from_operator around b base power by_terminal.Comma next h e = comma_at_operator around b base power next h e
+from_operator around b base power by_terminal.Period next h e = dot_at_operator around b base power next h e
+from_operator around b base power (by_terminal.Number m) next h e = absurd cc
+from_operator around b base power (by_terminal.Name m) next h e = absurd cc
+from_operator around b base power (by_terminal.Imaginary m) next h e = absurd cc
+from_operator around b base power (by_terminal.Delta m) next h e = absurd cc
 from_operator around b base power by_terminal.Equals next h e = absurd cc
 from_operator around b base power by_terminal.Other next h e = absurd cc
 
+-- ---- in a dot product and in `d_`
+
+vector_read : (around : List Outer) (b : Before) (p q : Named) (next : Reading) → IsLawfulAt (at_vector around b p)
+    → Some (at (kept_to around b (pieces.Dot (link_before b) p ∷ []) ++ pieces.EndOfDot q None ∷ []) (brackets around) (by_expected.Operator last.Base)) ≡ Some next → GoesOn (at_vector around b p) (written_name q) next
+vector_read around b p q next h e = record {
+  there = at_operator around b (dot p q) None;
+  lawful = record { lawful_around = h.0; lawful_before = h.1; lawful_factor = tt; fits = fits_dot b p q };
+  kept = sym (same_Some _ next e) ∙ ap (λ (kept : List Piece). at kept (brackets around) (by_expected.Operator last.Base)) (third (kept_around around) (kept_before b) (pieces.Dot (link_before b) p ∷ []) (pieces.EndOfDot q None ∷ []));
+  written = third (written_around around) (written_before b) (written_name p ∷ by_terminal.Period ∷ []) (written_name q ∷ []);
+}
+
+from_vector : (around : List Outer) (b : Before) (p : Named) (t : Terminal) (next : Reading) → IsLawfulAt (at_vector around b p)
+    → step (reading_at (at_vector around b p)) t ≡ Some next → GoesOn (at_vector around b p) t next
+from_vector around b p (by_terminal.Name n) next h e = vector_read around b p (names.Declared n) next h e
+from_vector around b p (by_terminal.Imaginary spot) next h e = vector_read around b p (names.Imaginary spot) next h e
+from_vector around b p (by_terminal.Number m) next h e = absurd cc
+from_vector around b p (by_terminal.Delta m) next h e = absurd cc
+from_vector around b p (by_terminal.Sign m) next h e = absurd cc
+from_vector around b p by_terminal.Times next h e = absurd cc
+from_vector around b p by_terminal.Over next h e = absurd cc
+from_vector around b p by_terminal.Raise next h e = absurd cc
+from_vector around b p by_terminal.Open next h e = absurd cc
+from_vector around b p by_terminal.Close next h e = absurd cc
+from_vector around b p by_terminal.Comma next h e = absurd cc
+from_vector around b p by_terminal.Period next h e = absurd cc
+from_vector around b p by_terminal.Equals next h e = absurd cc
+from_vector around b p by_terminal.Other next h e = absurd cc
+
+from_delta : (around : List Outer) (b : Before) (spot : Spot) (t : Terminal) (next : Reading) → IsLawfulAt (at_delta around b spot)
+    → step (reading_at (at_delta around b spot)) t ≡ Some next → GoesOn (at_delta around b spot) t next
+from_delta around b spot by_terminal.Open next h e =
+    let made = at (kept_around around ++ kept_before b) (brackets around) (by_expected.FirstEntry (link_before b) spot) in
+    let k = passes (ltb (depth around) 64) (Some made) next e in
+    record {
+      there = at_first_entry around b spot;
+      lawful = (h, ltb-true (depth around) 64 k.0);
+      kept = sym (same_Some made next k.1);
+      written = third (written_around around) (written_before b) (by_terminal.Delta spot ∷ []) (by_terminal.Open ∷ []);
+    }
+from_delta around b spot (by_terminal.Number m) next h e = absurd cc
+from_delta around b spot (by_terminal.Name m) next h e = absurd cc
+from_delta around b spot (by_terminal.Imaginary m) next h e = absurd cc
+from_delta around b spot (by_terminal.Delta m) next h e = absurd cc
+from_delta around b spot (by_terminal.Sign m) next h e = absurd cc
+from_delta around b spot by_terminal.Times next h e = absurd cc
+from_delta around b spot by_terminal.Over next h e = absurd cc
+from_delta around b spot by_terminal.Raise next h e = absurd cc
+from_delta around b spot by_terminal.Close next h e = absurd cc
+from_delta around b spot by_terminal.Comma next h e = absurd cc
+from_delta around b spot by_terminal.Period next h e = absurd cc
+from_delta around b spot by_terminal.Equals next h e = absurd cc
+from_delta around b spot by_terminal.Other next h e = absurd cc
+
+first_entry_read : (around : List Outer) (b : Before) (spot : Spot) (a : Entry) (next : Reading) → IsLawfulAt (at_first_entry around b spot)
+    → Some (at ((kept_around around ++ kept_before b) ++ pieces.Delta (link_before b) spot a ∷ []) (brackets around) by_expected.EntryComma) ≡ Some next → GoesOn (at_first_entry around b spot) (written_entry a) next
+first_entry_read around b spot a next h e = record {
+  there = at_comma around b spot a;
+  lawful = h;
+  kept = sym (same_Some _ next e) ∙ ap (λ (kept : List Piece). at kept (brackets around) by_expected.EntryComma) (marked (kept_around around) (kept_before b) (pieces.Delta (link_before b) spot a));
+  written = third (written_around around) (written_before b) (by_terminal.Delta spot ∷ by_terminal.Open ∷ []) (written_entry a ∷ []);
+}
+
+from_first_entry : (around : List Outer) (b : Before) (spot : Spot) (t : Terminal) (next : Reading) → IsLawfulAt (at_first_entry around b spot)
+    → step (reading_at (at_first_entry around b spot)) t ≡ Some next → GoesOn (at_first_entry around b spot) t next
+from_first_entry around b spot (by_terminal.Number n) next h e = first_entry_read around b spot (entries.Number n) next h e
+from_first_entry around b spot (by_terminal.Name n) next h e = first_entry_read around b spot (entries.Name (names.Declared n)) next h e
+from_first_entry around b spot (by_terminal.Imaginary other) next h e = first_entry_read around b spot (entries.Name (names.Imaginary other)) next h e
+from_first_entry around b spot (by_terminal.Delta m) next h e = absurd cc
+from_first_entry around b spot (by_terminal.Sign m) next h e = absurd cc
+from_first_entry around b spot by_terminal.Times next h e = absurd cc
+from_first_entry around b spot by_terminal.Over next h e = absurd cc
+from_first_entry around b spot by_terminal.Raise next h e = absurd cc
+from_first_entry around b spot by_terminal.Open next h e = absurd cc
+from_first_entry around b spot by_terminal.Close next h e = absurd cc
+from_first_entry around b spot by_terminal.Comma next h e = absurd cc
+from_first_entry around b spot by_terminal.Period next h e = absurd cc
+from_first_entry around b spot by_terminal.Equals next h e = absurd cc
+from_first_entry around b spot by_terminal.Other next h e = absurd cc
+
+from_comma : (around : List Outer) (b : Before) (spot : Spot) (a : Entry) (t : Terminal) (next : Reading) → IsLawfulAt (at_comma around b spot a)
+    → step (reading_at (at_comma around b spot a)) t ≡ Some next → GoesOn (at_comma around b spot a) t next
+from_comma around b spot a by_terminal.Comma next h e = record {
+  there = at_second_entry around b spot a;
+  lawful = h;
+  kept = sym (same_Some _ next e);
+  written = third (written_around around) (written_before b) (by_terminal.Delta spot ∷ by_terminal.Open ∷ written_entry a ∷ []) (by_terminal.Comma ∷ []);
+}
+from_comma around b spot a (by_terminal.Number m) next h e = absurd cc
+from_comma around b spot a (by_terminal.Name m) next h e = absurd cc
+from_comma around b spot a (by_terminal.Imaginary m) next h e = absurd cc
+from_comma around b spot a (by_terminal.Delta m) next h e = absurd cc
+from_comma around b spot a (by_terminal.Sign m) next h e = absurd cc
+from_comma around b spot a by_terminal.Times next h e = absurd cc
+from_comma around b spot a by_terminal.Over next h e = absurd cc
+from_comma around b spot a by_terminal.Raise next h e = absurd cc
+from_comma around b spot a by_terminal.Open next h e = absurd cc
+from_comma around b spot a by_terminal.Close next h e = absurd cc
+from_comma around b spot a by_terminal.Period next h e = absurd cc
+from_comma around b spot a by_terminal.Equals next h e = absurd cc
+from_comma around b spot a by_terminal.Other next h e = absurd cc
+
+second_entry_read : (around : List Outer) (b : Before) (spot : Spot) (a c : Entry) (next : Reading) → IsLawfulAt (at_second_entry around b spot a)
+    → Some (at (kept_to around b (pieces.Delta (link_before b) spot a ∷ []) ++ pieces.EndOfDelta c None ∷ []) (brackets around) by_expected.DeltaClosing) ≡ Some next → GoesOn (at_second_entry around b spot a) (written_entry c) next
+second_entry_read around b spot a c next h e = record {
+  there = at_delta_closing around b spot a c;
+  lawful = h;
+  kept = sym (same_Some _ next e) ∙ ap (λ (kept : List Piece). at kept (brackets around) by_expected.DeltaClosing) (third (kept_around around) (kept_before b) (pieces.Delta (link_before b) spot a ∷ []) (pieces.EndOfDelta c None ∷ []));
+  written = third (written_around around) (written_before b) (by_terminal.Delta spot ∷ by_terminal.Open ∷ written_entry a ∷ by_terminal.Comma ∷ []) (written_entry c ∷ []);
+}
+
+from_second_entry : (around : List Outer) (b : Before) (spot : Spot) (a : Entry) (t : Terminal) (next : Reading) → IsLawfulAt (at_second_entry around b spot a)
+    → step (reading_at (at_second_entry around b spot a)) t ≡ Some next → GoesOn (at_second_entry around b spot a) t next
+from_second_entry around b spot a (by_terminal.Number n) next h e = second_entry_read around b spot a (entries.Number n) next h e
+from_second_entry around b spot a (by_terminal.Name n) next h e = second_entry_read around b spot a (entries.Name (names.Declared n)) next h e
+from_second_entry around b spot a (by_terminal.Imaginary other) next h e = second_entry_read around b spot a (entries.Name (names.Imaginary other)) next h e
+from_second_entry around b spot a (by_terminal.Delta m) next h e = absurd cc
+from_second_entry around b spot a (by_terminal.Sign m) next h e = absurd cc
+from_second_entry around b spot a by_terminal.Times next h e = absurd cc
+from_second_entry around b spot a by_terminal.Over next h e = absurd cc
+from_second_entry around b spot a by_terminal.Raise next h e = absurd cc
+from_second_entry around b spot a by_terminal.Open next h e = absurd cc
+from_second_entry around b spot a by_terminal.Close next h e = absurd cc
+from_second_entry around b spot a by_terminal.Comma next h e = absurd cc
+from_second_entry around b spot a by_terminal.Period next h e = absurd cc
+from_second_entry around b spot a by_terminal.Equals next h e = absurd cc
+from_second_entry around b spot a by_terminal.Other next h e = absurd cc
+
+from_delta_closing : (around : List Outer) (b : Before) (spot : Spot) (a c : Entry) (t : Terminal) (next : Reading) → IsLawfulAt (at_delta_closing around b spot a c)
+    → step (reading_at (at_delta_closing around b spot a c)) t ≡ Some next → GoesOn (at_delta_closing around b spot a c) t next
+from_delta_closing around b spot a c by_terminal.Close next h e = record {
+  there = at_operator around b (delta spot a c) None;
+  lawful = record { lawful_around = h.0.lawful_around; lawful_before = h.0.lawful_before; lawful_factor = (h.1, tt, tt); fits = fits_taken b (factor (delta spot a c) None) h.0.takes };
+  kept = sym (same_Some _ next e);
+  written = third (written_around around) (written_before b) (by_terminal.Delta spot ∷ by_terminal.Open ∷ written_entry a ∷ by_terminal.Comma ∷ written_entry c ∷ []) (by_terminal.Close ∷ []);
+}
+from_delta_closing around b spot a c (by_terminal.Number m) next h e = absurd cc
+from_delta_closing around b spot a c (by_terminal.Name m) next h e = absurd cc
+from_delta_closing around b spot a c (by_terminal.Imaginary m) next h e = absurd cc
+from_delta_closing around b spot a c (by_terminal.Delta m) next h e = absurd cc
+from_delta_closing around b spot a c (by_terminal.Sign m) next h e = absurd cc
+from_delta_closing around b spot a c by_terminal.Times next h e = absurd cc
+from_delta_closing around b spot a c by_terminal.Over next h e = absurd cc
+from_delta_closing around b spot a c by_terminal.Raise next h e = absurd cc
+from_delta_closing around b spot a c by_terminal.Open next h e = absurd cc
+from_delta_closing around b spot a c by_terminal.Comma next h e = absurd cc
+from_delta_closing around b spot a c by_terminal.Period next h e = absurd cc
+from_delta_closing around b spot a c by_terminal.Equals next h e = absurd cc
+from_delta_closing around b spot a c by_terminal.Other next h e = absurd cc
+
+-- ---- all places
+
 goes_on : (place : Place) (t : Terminal) (next : Reading) → IsLawfulAt place → step (reading_at place) t ≡ Some next → GoesOn place t next
 goes_on (at_factor around b) t next h e = from_factor around b t next h e
+goes_on (at_argument around b n) t next h e = from_argument around b n t next h e
 goes_on (at_exponent around b base is_parenthesized sign) t next h e = from_exponent around b base is_parenthesized sign t next h e
 goes_on (at_closing around b base sign n) t next h e = from_closing around b base sign n t next h e
 goes_on (at_operator around b base power) t next h e = from_operator around b base power t next h e
+goes_on (at_vector around b p) t next h e = from_vector around b p t next h e
+goes_on (at_delta around b spot) t next h e = from_delta around b spot t next h e
+goes_on (at_first_entry around b spot) t next h e = from_first_entry around b spot t next h e
+goes_on (at_comma around b spot a) t next h e = from_comma around b spot a t next h e
+goes_on (at_second_entry around b spot a) t next h e = from_second_entry around b spot a t next h e
+goes_on (at_delta_closing around b spot a c) t next h e = from_delta_closing around b spot a c t next h e
 
 ends : (place : Place) (kept : List Piece) → IsLawfulAt place → finished (reading_at place) ≡ Some kept → IsExpr (written_at place) kept
 ends (at_factor around b) kept h e = absurd cc
+ends (at_argument around b n) kept h e = absurd cc
 ends (at_exponent around b base is_parenthesized sign) kept h e = absurd cc
 ends (at_closing around b base sign n) kept h e = absurd cc
-ends (at_operator (c ∷ around) b base power) kept h e =
-    let open_still : suc (length around) ≡ 0 = eqb-true (suc (length around)) 0 (passes (eqb (suc (length around)) 0) (kept_factor (c ∷ around) b (factor base power)) kept e).0 in
-    absurd (omega arith)
+ends (at_vector around b p) kept h e = absurd cc
+ends (at_delta around b spot) kept h e = absurd cc
+ends (at_first_entry around b spot) kept h e = absurd cc
+ends (at_comma around b spot a) kept h e = absurd cc
+ends (at_second_entry around b spot a) kept h e = absurd cc
+ends (at_delta_closing around b spot a c) kept h e = absurd cc
+ends (at_operator (c ∷ around) b base power) kept h e = absurd cc
 ends (at_operator [] b base power) kept h e = record {
   tree = sum_to b (factor base power);
   lawful = lawful_whole 0 b (factor base power) h.lawful_before h.lawful_factor h.fits;

@@ -1,38 +1,52 @@
 -- What each terminal of a right side does, by what is expected.
-use Rattle.std.specs.Prelude.{Bool, true, false, Option, Some, None, if◌then◌else◌}
+use Rattle.std.specs.Prelude.{Bool, true, false, Option, Some, None}
+use Rattle.form_base.specs.declared.spot.Spot.{Spot}
 use Rattle.form_ast.specs.declared.expr.Sign as signs
 use Rattle.form_ast.specs.declared.expr.Link as links
 use Rattle.form_ast.specs.declared.expr.Link.TheVariants as by_link
+use Rattle.form_ast.specs.declared.expr.Named.TheVariants.{Declared}
+use Rattle.form_ast.specs.declared.expr.Named.TheVariants as names
+use Rattle.form_ast.specs.declared.expr.Entry.TheVariants as entries
 use Rattle.form_ast.specs.declared.expr.Piece.TheVariants as piece
 use Rattle.form_ast.specs.Syntax.{link_of}
 use Rattle.form_grammar.specs.declared.terminal.Terminal.{Terminal}
-use Rattle.form_grammar.specs.declared.terminal.Terminal.TheVariants.{Number, Name, Sign, Times, Over, Raise, Open, Close}
+use Rattle.form_grammar.specs.declared.terminal.Terminal.TheVariants.{Number, Name, Imaginary, Delta, Sign, Times, Over, Raise, Open, Close, Comma, Period}
+use Rattle.form_grammar.specs.declared.effect.Last as lasts
+use Rattle.form_grammar.specs.declared.effect.Last.TheVariants as last
 use Rattle.form_grammar.specs.declared.effect.Expected.{Expected}
-use Rattle.form_grammar.specs.declared.effect.Expected.TheVariants.{Factor, Exponent, Closing, Operator}
+use Rattle.form_grammar.specs.declared.effect.Expected.TheVariants.{Factor, Argument, Exponent, Closing, Operator, Vector, FirstEntry, EntryComma, SecondEntry, DeltaClosing}
+use Rattle.form_grammar.specs.declared.effect.Expected.TheVariants as expected
 use Rattle.form_grammar.specs.declared.effect.Effect.{Effect}
-use Rattle.form_grammar.specs.declared.effect.Effect.TheVariants.{Waits, Adds, Opens, OpensPower, Closes, Raises, Fails}
+use Rattle.form_grammar.specs.declared.effect.Effect.TheVariants.{Waits, Adds, Opens, Encloses, Calls, Closes, Parts, Raises, Dots, Fails}
 
-abbrev pub open_effect : links.Link → Effect
-open_effect by_link.Over = Fails
-open_effect link = Opens link
+-- what has parentheses doesn't stand behind `/`
+abbrev pub unless_over : links.Link → Effect → Effect
+unless_over by_link.Over effect = Fails
+unless_over _ effect = effect
 
 abbrev pub first_sign_effect : links.Link → signs.Sign → Effect
 first_sign_effect by_link.First sign = Waits (Factor (link_of sign))
 first_sign_effect _ sign = Fails
 
 abbrev pub factor_effect : links.Link → Terminal → Effect
-factor_effect link (Number n) = Adds (piece.Number link n None)
-factor_effect link (Name n) = Adds (piece.Name link n None)
+factor_effect link (Number n) = Adds (piece.Number link n None) (Operator last.Base)
+factor_effect link (Name n) = Adds (piece.Name link (Declared n) None) (Operator last.Name)
+factor_effect link (Imaginary spot) = Adds (piece.Name link (names.Imaginary spot) None) (Operator last.Name)
 factor_effect link (Sign sign) = first_sign_effect link sign
-factor_effect link Open = open_effect link
+factor_effect link Open = unless_over link (Opens link)
+factor_effect link (Delta spot) = unless_over link (Waits (expected.Delta link spot))
 factor_effect link _ = Fails
+
+abbrev pub argument_effect : Terminal → Effect
+argument_effect Close = Closes
+argument_effect terminal = factor_effect by_link.First terminal
 
 abbrev pub exponent_sign_effect : Bool → Option signs.Sign → signs.Sign → Effect
 exponent_sign_effect is_parenthesized None sign = Waits (Exponent is_parenthesized (Some sign))
 exponent_sign_effect is_parenthesized (Some _) sign = Fails
 
 abbrev pub exponent_open_effect : Bool → Option signs.Sign → Effect
-exponent_open_effect false None = OpensPower
+exponent_open_effect false None = Encloses (Exponent true None)
 exponent_open_effect _ _ = Fails
 
 abbrev pub exponent_effect : Bool → Option signs.Sign → Terminal → Effect
@@ -41,21 +55,70 @@ exponent_effect is_parenthesized sign (Sign s) = exponent_sign_effect is_parenth
 exponent_effect is_parenthesized sign Open = exponent_open_effect is_parenthesized sign
 exponent_effect is_parenthesized sign _ = Fails
 
-abbrev pub closing_effect : Terminal → Effect
-closing_effect Close = Waits (Operator true)
-closing_effect _ = Fails
+abbrev pub raise_effect : lasts.Last → Effect
+raise_effect last.Power = Fails
+raise_effect _ = Waits (Exponent false None)
 
-abbrev pub operator_effect : Bool → Terminal → Effect
-operator_effect is_raised (Sign sign) = Waits (Factor (link_of sign))
-operator_effect is_raised Times = Waits (Factor by_link.Times)
-operator_effect is_raised Over = Waits (Factor by_link.Over)
-operator_effect is_raised Close = Closes
-operator_effect is_raised Raise = if is_raised then Fails else Waits (Exponent false None)
-operator_effect is_raised _ = Fails
+-- what stands behind a name alone
+abbrev pub behind_name : lasts.Last → Effect → Effect
+behind_name last.Name effect = effect
+behind_name _ effect = Fails
+
+abbrev pub operator_effect : lasts.Last → Terminal → Effect
+operator_effect last (Sign sign) = Waits (Factor (link_of sign))
+operator_effect last Times = Waits (Factor by_link.Times)
+operator_effect last Over = Waits (Factor by_link.Over)
+operator_effect last Close = Closes
+operator_effect last Comma = Parts
+operator_effect last Raise = raise_effect last
+operator_effect last Period = behind_name last Dots
+operator_effect last Open = behind_name last Calls
+operator_effect last _ = Fails
+
+abbrev pub vector_effect : Terminal → Effect
+vector_effect (Name n) = Adds (piece.EndOfDot (Declared n) None) (Operator last.Base)
+vector_effect (Imaginary spot) = Adds (piece.EndOfDot (names.Imaginary spot) None) (Operator last.Base)
+vector_effect _ = Fails
+
+abbrev pub first_entry_effect : links.Link → Spot → Terminal → Effect
+first_entry_effect link spot (Name n) = Adds (piece.Delta link spot (entries.Name (Declared n))) EntryComma
+first_entry_effect link spot (Imaginary other) = Adds (piece.Delta link spot (entries.Name (names.Imaginary other))) EntryComma
+first_entry_effect link spot (Number n) = Adds (piece.Delta link spot (entries.Number n)) EntryComma
+first_entry_effect link spot _ = Fails
+
+abbrev pub second_entry_effect : Terminal → Effect
+second_entry_effect (Name n) = Adds (piece.EndOfDelta (entries.Name (Declared n)) None) DeltaClosing
+second_entry_effect (Imaginary spot) = Adds (piece.EndOfDelta (entries.Name (names.Imaginary spot)) None) DeltaClosing
+second_entry_effect (Number n) = Adds (piece.EndOfDelta (entries.Number n) None) DeltaClosing
+second_entry_effect _ = Fails
+
+abbrev pub at_open : Terminal → Effect → Effect
+at_open Open effect = effect
+at_open _ effect = Fails
+
+abbrev pub at_close : Terminal → Effect → Effect
+at_close Close effect = effect
+at_close _ effect = Fails
+
+abbrev pub at_comma : Terminal → Effect → Effect
+at_comma Comma effect = effect
+at_comma _ effect = Fails
+
+-- where one mark alone may stand
+abbrev pub mark_effect : Expected → Terminal → Effect
+mark_effect Closing terminal = at_close terminal (Waits (Operator last.Power))
+mark_effect (expected.Delta link spot) terminal = at_open terminal (Encloses (FirstEntry link spot))
+mark_effect EntryComma terminal = at_comma terminal (Waits SecondEntry)
+mark_effect DeltaClosing terminal = at_close terminal (Waits (Operator last.Base))
+mark_effect _ terminal = Fails
 
 -- what a terminal does where this is expected
 abbrev pub effect_of : Expected → Terminal → Effect
 effect_of (Factor link) terminal = factor_effect link terminal
+effect_of Argument terminal = argument_effect terminal
 effect_of (Exponent is_parenthesized sign) terminal = exponent_effect is_parenthesized sign terminal
-effect_of Closing terminal = closing_effect terminal
-effect_of (Operator is_raised) terminal = operator_effect is_raised terminal
+effect_of (Operator last) terminal = operator_effect last terminal
+effect_of Vector terminal = vector_effect terminal
+effect_of (FirstEntry link spot) terminal = first_entry_effect link spot terminal
+effect_of SecondEntry terminal = second_entry_effect terminal
+effect_of e terminal = mark_effect e terminal

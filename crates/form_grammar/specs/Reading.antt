@@ -1,7 +1,8 @@
 -- Reading a right side from its front to its end, terminal by terminal. That this reads the right sides of Grammar is proved.
-use Rattle.std.specs.Prelude.{◌≡◌, ℕ, ◌+◌, ◌-◌, List, [], ◌∷◌, ◌++◌, Bool, true, false, Option, Some, None, option_map, option_and_then, if◌then◌else◌, nat_lt, ◌==◌, Result, Ok, Err}
+use Rattle.std.specs.Prelude.{◌≡◌, length, List, [], ◌∷◌, ◌++◌, Bool, true, false, Option, Some, None, option_map, option_and_then, if◌then◌else◌, nat_lt, ◌==◌, Result, Ok, Err}
 use Rattle.form_ast.specs.declared.expr.Sign.TheVariants.{Minus}
 use Rattle.form_ast.specs.declared.expr.Sign as signs
+use Rattle.form_ast.specs.declared.expr.Link as links
 use Rattle.form_ast.specs.declared.expr.Link.TheVariants as by_link
 use Rattle.form_ast.specs.declared.expr.Power.{Power}
 use Rattle.form_ast.specs.declared.expr.Piece.{Piece}
@@ -11,9 +12,14 @@ use Rattle.form_grammar.specs.declared.error.ReadError.{ReadError}
 use Rattle.form_grammar.specs.declared.error.ReadError.TheVariants.{BadSyntax, Memory}
 use Rattle.form_grammar.specs.declared.terminal.Terminal.{Terminal}
 use Rattle.form_grammar.specs.declared.effect.Expected.{Expected}
-use Rattle.form_grammar.specs.declared.effect.Expected.TheVariants.{Factor, Exponent, Closing, Operator}
+use Rattle.form_grammar.specs.declared.effect.Expected.TheVariants.{Factor, Argument, Closing, Operator, Vector}
+use Rattle.form_grammar.specs.declared.effect.Last.TheVariants as last
 use Rattle.form_grammar.specs.declared.effect.Effect.{Effect}
-use Rattle.form_grammar.specs.declared.effect.Effect.TheVariants.{Waits, Adds, Opens, OpensPower, Closes, Raises, Fails}
+use Rattle.form_grammar.specs.declared.effect.Effect.TheVariants.{Waits, Adds, Opens, Encloses, Calls, Closes, Parts, Raises, Dots, Fails}
+use Rattle.form_grammar.specs.declared.brackets.Bracket.{Bracket}
+use Rattle.form_grammar.specs.declared.brackets.Bracket.TheVariants.{Parenthesis, Arguments}
+use Rattle.form_grammar.specs.declared.reader.Change.{Change}
+use Rattle.form_grammar.specs.declared.reader.Change.TheVariants as changes
 use Rattle.form_grammar.specs.declared.reader.Reader.{Reader}
 use Rattle.form_grammar.specs.Effect.{effect_of}
 
@@ -31,17 +37,17 @@ abbrev pub Excludes : {X : Type 0} → ReadError → (X → Type 0) → Type 0
 Excludes Memory P = Unit {0}
 Excludes {X} BadSyntax P = (x : X) → P x → ⊥
 
--- a right side while it is read: its pieces, how many parentheses are open, and what may come next
+-- a right side while it is read: its pieces, the parentheses that are open, the innermost first, and what may come next
 pub record Reading : Type 0 where
   pub pieces : List Piece
-  pub opened : ℕ
+  pub opened : List Bracket
   pub expected : Expected
 
 abbrev pub reading_of : Reader → Reading
 reading_of r = record { pieces = r.pieces.items; opened = r.opened; expected = r.expected }
 
 abbrev pub begun : Reading
-begun = record { pieces = []; opened = 0; expected = Factor by_link.First }
+begun = record { pieces = []; opened = []; expected = Factor by_link.First }
 
 abbrev pub has_minus : Option signs.Sign → Bool
 has_minus (Some Minus) = true
@@ -51,39 +57,87 @@ has_minus _ = false
 abbrev pub is_negative : Power → Bool
 is_negative p = if has_minus p.sign then (if p.number.value == 0 then false else true) else false
 
--- the piece with this power; a negative one stands on no parenthesis
+-- a negative power stands on nothing that has parentheses
+abbrev pub unless_negative : Power → Piece → Option Piece
+unless_negative p y = if is_negative p then None else Some y
+
+-- the piece with this power
 abbrev pub powered : Power → Piece → Option Piece
 powered p (piece.Number link n power) = Some (piece.Number link n (Some p))
 powered p (piece.Name link n power) = Some (piece.Name link n (Some p))
-powered p (piece.Open link) = None
-powered p (piece.Close power) = if is_negative p then None else Some (piece.Close (Some p))
+powered p (piece.EndOfDot n power) = Some (piece.EndOfDot n (Some p))
+powered p (piece.EndOfDelta e power) = unless_negative p (piece.EndOfDelta e (Some p))
+powered p (piece.EndOfCall power) = unless_negative p (piece.EndOfCall (Some p))
+powered p (piece.Close power) = unless_negative p (piece.Close (Some p))
+powered p _ = None
 
--- the pieces, the last one with this power
-unfoldable pub raised : Power → List Piece → Option (List Piece)
-raised p [] = None
-raised p (x ∷ []) = option_map (λ y. y ∷ []) (powered p x)
-raised p (x ∷ y ∷ rest) = option_map (λ pieces. x ∷ pieces) (raised p (y ∷ rest))
+abbrev pub unless_over : links.Link → Piece → Option Piece
+unless_over by_link.Over y = None
+unless_over _ y = Some y
+
+-- the piece as what follows changes it: a name with arguments doesn't stand behind `/`
+abbrev pub changed : Change → Piece → Option Piece
+changed (changes.Power p) x = powered p x
+changed changes.Dot (piece.Name link n power) = Some (piece.Dot link n)
+changed changes.Dot _ = None
+changed changes.Call (piece.Name link n power) = unless_over link (piece.Call link n)
+changed changes.Call _ = None
+
+-- the pieces, the last one changed
+unfoldable pub with_last : Change → List Piece → Option (List Piece)
+with_last c [] = None
+with_last c (x ∷ []) = option_map (λ y. y ∷ []) (changed c x)
+with_last c (x ∷ y ∷ rest) = option_map (λ pieces. x ∷ pieces) (with_last c (y ∷ rest))
+
+abbrev pub changed_reading : Change → Reading → Option Reading
+changed_reading c r = option_map (λ pieces. record { pieces = pieces; opened = r.opened; expected = r.expected }) (with_last c r.pieces)
+
+-- a further parenthesis may be open
+abbrev pub room_for : Reading → Bool
+room_for r = nat_lt (length r.opened) most_open
+
+-- the innermost parenthesis holds arguments
+abbrev pub are_arguments : List Bracket → Bool
+are_arguments (Arguments ∷ around) = true
+are_arguments _ = false
+
+-- what ends what is open
+abbrev pub end_of : Bracket → Piece
+end_of Parenthesis = piece.Close None
+end_of Arguments = piece.EndOfCall None
+
+abbrev pub closed : List Piece → List Bracket → Option Reading
+closed pieces [] = None
+closed pieces (b ∷ around) = Some (record { pieces = pieces ++ end_of b ∷ []; opened = around; expected = Operator last.Base })
 
 abbrev pub applied : Reading → Effect → Option Reading
 applied r (Waits expected) = Some (record { pieces = r.pieces; opened = r.opened; expected = expected })
-applied r (Adds p) = Some (record { pieces = r.pieces ++ p ∷ []; opened = r.opened; expected = Operator false })
+applied r (Adds p expected) = Some (record { pieces = r.pieces ++ p ∷ []; opened = r.opened; expected = expected })
 applied r (Opens link) =
-    if nat_lt r.opened most_open then Some (record { pieces = r.pieces ++ piece.Open link ∷ []; opened = r.opened + 1; expected = Factor by_link.First }) else None
-applied r OpensPower =
-    if nat_lt r.opened most_open then Some (record { pieces = r.pieces; opened = r.opened; expected = Exponent true None }) else None
-applied r Closes =
-    if nat_lt 0 r.opened then Some (record { pieces = r.pieces ++ piece.Close None ∷ []; opened = r.opened - 1; expected = Operator false }) else None
+    if room_for r then Some (record { pieces = r.pieces ++ piece.Open link ∷ []; opened = Parenthesis ∷ r.opened; expected = Factor by_link.First }) else None
+applied r (Encloses expected) =
+    if room_for r then Some (record { pieces = r.pieces; opened = r.opened; expected = expected }) else None
+applied r Calls =
+    if room_for r then option_map (λ n. record { pieces = n.pieces; opened = Arguments ∷ n.opened; expected = Argument }) (changed_reading changes.Call r) else None
+applied r Closes = closed r.pieces r.opened
+applied r Parts =
+    if are_arguments r.opened then Some (record { pieces = r.pieces ++ piece.Comma ∷ []; opened = r.opened; expected = Factor by_link.First }) else None
 applied r (Raises p) =
-    option_map (λ pieces. record { pieces = pieces; opened = r.opened; expected = if p.is_parenthesized then Closing else Operator true }) (raised p r.pieces)
+    option_map (λ n. record { pieces = n.pieces; opened = n.opened; expected = if p.is_parenthesized then Closing else Operator last.Power }) (changed_reading (changes.Power p) r)
+applied r Dots = option_map (λ n. record { pieces = n.pieces; opened = n.opened; expected = Vector }) (changed_reading changes.Dot r)
 applied r Fails = None
 
 -- one terminal further
 abbrev pub step : Reading → Terminal → Option Reading
 step r terminal = applied r (effect_of r.expected terminal)
 
+abbrev pub all_closed : List Bracket → List Piece → Option (List Piece)
+all_closed [] pieces = Some pieces
+all_closed (b ∷ around) pieces = None
+
 -- the pieces, where all is closed and a factor stands last
-abbrev pub finished_at : Expected → ℕ → List Piece → Option (List Piece)
-finished_at (Operator is_raised) opened pieces = if opened == 0 then Some pieces else None
+abbrev pub finished_at : Expected → List Bracket → List Piece → Option (List Piece)
+finished_at (Operator last) opened pieces = all_closed opened pieces
 finished_at _ opened pieces = None
 
 abbrev pub finished : Reading → Option (List Piece)

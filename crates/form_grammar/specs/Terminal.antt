@@ -3,12 +3,14 @@ use Rattle.form_ast.specs.declared.expr.Sign.TheVariants as signs
 use Rattle.form_lexer.specs.declared.mark.Mark as marks
 use Rattle.form_lexer.specs.declared.mark.Mark.TheVariants.{Plus, Minus}
 use Rattle.form_lexer.specs.declared.mark.Mark.TheVariants as mark
+use Rattle.form_lexer.specs.declared.mark.BuiltIn as built_ins
+use Rattle.form_lexer.specs.declared.mark.BuiltIn.TheVariants as built_in
 use Rattle.form_lexer.specs.declared.token.Token.{Token}
 use Rattle.form_lexer.specs.declared.token.TokenKind.{TokenKind}
 use Rattle.form_lexer.specs.declared.token.TokenKind.TheVariants as kind
 use Rattle.form_base.specs.declared.spot.Spot.{Spot}
 use Rattle.form_grammar.specs.declared.terminal.Terminal.{Terminal}
-use Rattle.form_grammar.specs.declared.terminal.Terminal.TheVariants.{Number, Name, Sign, Times, Over, Raise, Open, Close, Comma, Equals, Other}
+use Rattle.form_grammar.specs.declared.terminal.Terminal.TheVariants.{Number, Name, Imaginary, Delta, Sign, Times, Over, Raise, Open, Close, Comma, Period, Equals, Other}
 
 -- a mark as the grammar sees it
 abbrev pub mark_terminal : marks.Mark → Terminal
@@ -20,13 +22,20 @@ mark_terminal mark.Power = Raise
 mark_terminal mark.Open = Open
 mark_terminal mark.Close = Close
 mark_terminal mark.Comma = Comma
+mark_terminal mark.Period = Period
 mark_terminal mark.Equals = Equals
 mark_terminal _ = Other
+
+-- a name of the language: `g_` stands nowhere yet
+abbrev pub built_in_terminal : built_ins.BuiltIn → Spot → Terminal
+built_in_terminal built_in.Imaginary spot = Imaginary spot
+built_in_terminal built_in.Delta spot = Delta spot
+built_in_terminal built_in.Gamma spot = Other
 
 abbrev pub kind_terminal : TokenKind → Spot → Terminal
 kind_terminal (kind.Number value) spot = Number (record { value = value; spot = spot })
 kind_terminal (kind.Name name) spot = Name (record { name = name; spot = spot })
-kind_terminal (kind.BuiltIn built_in) spot = Other
+kind_terminal (kind.BuiltIn name) spot = built_in_terminal name spot
 kind_terminal (kind.Mark mark) spot = mark_terminal mark
 kind_terminal kind.Stray spot = Other
 

@@ -1,6 +1,7 @@
 //! Reading a right side: which tokens are one, and which tree it is.
 #![tactic(auto)]
 
+mod brackets;
 mod effect;
 mod error;
 pub mod laws;

@@ -1,47 +1,103 @@
-ghost use Rattle.std.specs.Prelude.{◌≡◌, map, true, false, Some, None, IfErr, IfOk};
+ghost use Rattle.std.specs.Prelude.{◌≡◌, ◌++◌, ◌∷◌, [], map, true, false, Some, None, IfErr, IfOk};
 ghost use Rattle.std.specs.Vec.Iter.{into_iter_items};
-ghost use Rattle.form_grammar.specs.declared.effect.Effect.TheVariants.{Raises};
+ghost use Rattle.form_grammar.specs.declared.effect.Effect.TheVariants.{Opens, Encloses, Calls, Closes, Parts, Raises, Dots};
 ghost use Rattle.form_grammar.specs.Grammar.{IsExpr};
-ghost use Rattle.form_grammar.specs.Reading.{Gives, Excludes, applied, begun, finished, powered as powered_of, reading_of, run as run_from, step};
+ghost use Rattle.form_grammar.specs.Reading.{Gives, Excludes, applied, begun, changed as changed_by, changed_reading, is_negative as is_negative_power, finished, reading_of, room_for, run as run_from, step};
 ghost use Rattle.form_grammar.specs.Terminal.{terminal_of};
 
 use crate::ReadError;
-use crate::effect::{Effect, Expected, effect_of};
+use crate::brackets::{Bracket, Brackets};
+use crate::effect::{Effect, Expected, Last, effect_of};
 use crate::terminal::Terminal;
 use form_ast::{Expr, Link, Piece, Power, Sign};
 use form_lexer::Token;
 use std::alloc::Global;
+use std::mem::replace;
 use std::vec::IntoIter;
 
-/// So many parentheses may be open at a place, those of a power with them.
-const MOST_OPEN: u32 = 64;
+/// So many parentheses may be open at a place, those of a power and of arguments with them.
+const MOST_OPEN: usize = 64;
 
 /// A right side while it is read.
 #[derive(Drop)]
 pub struct Reader {
     pieces: Vec<Piece>,
-    /// How many parentheses are open.
-    opened: u32,
+    /// The parentheses that are open.
+    opened: Brackets,
     /// What may come next.
     expected: Expected,
 }
 
-/// Gives a piece this power, where it may have it: a negative power stands on no parenthesis. Answers whether it may.
-fn raise_piece(piece: &mut Piece, power: Power) -> bool
-    ensures raised { result ≡ true → powered_of power piece.old ≡ Some piece.new }
-    ensures not_raised { result ≡ false → powered_of power piece.old ≡ None }
+/// What what follows makes of the last piece.
+#[derive(Drop)]
+pub enum Change {
+    /// It has this power.
+    Power(Power),
+    /// It is a name, and begins a dot product.
+    Dot,
+    /// It is a name, and has arguments.
+    Call,
+}
+
+fn is_negative(power: &Power) -> bool
+    ensures { result ≡ is_negative_power power.now }
 {
+    matches!(power.sign, Some(Sign::Minus)) && power.number.value != 0
+}
+
+/// Gives a piece this power, where it may have it: a negative power stands on nothing that has parentheses. Answers
+/// whether it may.
+fn raise_piece(piece: &mut Piece, power: Power) -> bool
+    ensures changed { result ≡ true → changed_by (Change.Power power) piece.old ≡ Some piece.new }
+    ensures unchanged { result ≡ false → changed_by (Change.Power power) piece.old ≡ None }
+{
+    let is_negative = is_negative(&power);
     match piece {
         Piece::Number(_, _, written) => *written = Some(power),
         Piece::Name(_, _, written) => *written = Some(power),
-        Piece::Open(_) => return false,
-        Piece::Close(written) => {
-            if matches!(power.sign, Some(Sign::Minus)) && power.number.value != 0 {
-                return false;
-            }
-            *written = Some(power);
-        }
+        Piece::EndOfDot(_, written) => *written = Some(power),
+        Piece::EndOfDelta(_, written) if !is_negative => *written = Some(power),
+        Piece::EndOfCall(written) if !is_negative => *written = Some(power),
+        Piece::Close(written) if !is_negative => *written = Some(power),
+        _ => return false,
     }
+    true
+}
+
+/// The first name of a dot product, where the piece is a name.
+fn dotted(piece: Piece) -> Option<Piece>
+    ensures { result ≡ changed_by Change.Dot piece }
+{
+    match piece {
+        Piece::Name(link, name, _) => Some(Piece::Dot(link, name)),
+        _ => None,
+    }
+}
+
+/// A name that has arguments, where the piece is a name and doesn't stand behind `/`.
+fn called(piece: Piece) -> Option<Piece>
+    ensures { result ≡ changed_by Change.Call piece }
+{
+    match piece {
+        Piece::Name(link, name, _) if !matches!(link, Link::Over) => Some(Piece::Call(link, name)),
+        _ => None,
+    }
+}
+
+/// Changes a piece, where it may be changed so. Answers whether it may.
+fn change_piece(piece: &mut Piece, change: Change) -> bool
+    ensures changed { result ≡ true → changed_by change piece.old ≡ Some piece.new }
+    ensures unchanged { result ≡ false → changed_by change piece.old ≡ None }
+{
+    let taken = match change {
+        Change::Power(power) => return raise_piece(piece, power),
+        Change::Dot => dotted(replace(piece, Piece::Comma)),
+        Change::Call => called(replace(piece, Piece::Comma)),
+    };
+    let Some(taken) = taken else {
+        return false;
+    };
+    *piece = taken;
     true
 }
 
@@ -51,24 +107,110 @@ impl Reader {
     {
         Reader {
             pieces: Vec::new(alloc),
-            opened: 0,
+            opened: Brackets::new(alloc),
             expected: Expected::Factor(Link::First),
         }
+    }
+
+    fn has_room(&self) -> bool
+        ensures { result ≡ room_for (reading_of self.now) }
+    {
+        self.opened.len() < MOST_OPEN
+    }
+
+    /// Changes the last piece.
+    fn change_last(&mut self, change: Change) -> Result<(), ReadError>
+        ensures { Gives (λ _. reading_of self.new) result (changed_reading change (reading_of self.old)) }
+    {
+        let count = self.pieces.len();
+        if count == 0 || !change_piece(&mut self.pieces[count - 1], change) {
+            return Err(ReadError::BadSyntax);
+        }
+        Ok(())
+    }
+
+    /// Opens a parenthesis that is a factor.
+    fn open(&mut self, link: Link) -> Result<(), ReadError>
+        ensures { Gives (λ _. reading_of self.new) result (applied (reading_of self.old) (Opens link)) }
+    {
+        if !self.has_room() {
+            return Err(ReadError::BadSyntax);
+        }
+        self.opened.push(Bracket::Parenthesis)?;
+        self.pieces.push(Piece::Open(link))?;
+        self.expected = Expected::Factor(Link::First);
+        Ok(())
+    }
+
+    /// Opens another parenthesis, in which this is expected.
+    fn enclose(&mut self, expected: Expected) -> Result<(), ReadError>
+        ensures { Gives (λ _. reading_of self.new) result (applied (reading_of self.old) (Encloses expected)) }
+    {
+        if !self.has_room() {
+            return Err(ReadError::BadSyntax);
+        }
+        self.expected = expected;
+        Ok(())
+    }
+
+    /// Opens the arguments of the last name.
+    fn call(&mut self) -> Result<(), ReadError>
+        ensures { Gives (λ _. reading_of self.new) result (applied (reading_of self.old) Calls) }
+    {
+        if !self.has_room() {
+            return Err(ReadError::BadSyntax);
+        }
+        self.change_last(Change::Call)?;
+        self.opened.push(Bracket::Arguments)?;
+        self.expected = Expected::Argument;
+        Ok(())
+    }
+
+    /// Closes what is open.
+    fn close(&mut self) -> Result<(), ReadError>
+        ensures { Gives (λ _. reading_of self.new) result (applied (reading_of self.old) Closes) }
+    {
+        let piece = match self.opened.pop() {
+            Some(Bracket::Parenthesis) => Piece::Close(None),
+            Some(Bracket::Arguments) => Piece::EndOfCall(None),
+            None => return Err(ReadError::BadSyntax),
+        };
+        self.pieces.push(piece)?;
+        self.expected = Expected::Operator(Last::Base);
+        Ok(())
+    }
+
+    /// Goes on to a further argument.
+    fn part(&mut self) -> Result<(), ReadError>
+        ensures { Gives (λ _. reading_of self.new) result (applied (reading_of self.old) Parts) }
+    {
+        if !self.opened.are_arguments() {
+            return Err(ReadError::BadSyntax);
+        }
+        self.pieces.push(Piece::Comma)?;
+        self.expected = Expected::Factor(Link::First);
+        Ok(())
     }
 
     /// Gives the last factor this power.
     fn raise(&mut self, power: Power) -> Result<(), ReadError>
         ensures { Gives (λ _. reading_of self.new) result (applied (reading_of self.old) (Raises power)) }
     {
-        let count = self.pieces.len();
-        if count == 0 || !raise_piece(&mut self.pieces[count - 1], power) {
-            return Err(ReadError::BadSyntax);
-        }
+        self.change_last(Change::Power(power))?;
         self.expected = if power.is_parenthesized {
             Expected::Closing
         } else {
-            Expected::Operator { is_raised: true }
+            Expected::Operator(Last::Power)
         };
+        Ok(())
+    }
+
+    /// Begins a dot product with the last name.
+    fn dot(&mut self) -> Result<(), ReadError>
+        ensures { Gives (λ _. reading_of self.new) result (applied (reading_of self.old) Dots) }
+    {
+        self.change_last(Change::Dot)?;
+        self.expected = Expected::Vector;
         Ok(())
     }
 
@@ -77,30 +219,18 @@ impl Reader {
     {
         match effect {
             Effect::Waits(expected) => self.expected = expected,
-            Effect::Adds(piece) => {
+            Effect::Adds(piece, expected) => {
                 self.pieces.push(piece)?;
-                self.expected = Expected::Operator { is_raised: false };
+                self.expected = expected;
             }
-            Effect::Opens(link) if self.opened < MOST_OPEN => {
-                self.pieces.push(Piece::Open(link))?;
-                self.opened += 1;
-                self.expected = Expected::Factor(Link::First);
-            }
-            Effect::OpensPower if self.opened < MOST_OPEN => {
-                self.expected = Expected::Exponent {
-                    is_parenthesized: true,
-                    sign: None,
-                };
-            }
-            Effect::Closes if self.opened > 0 => {
-                self.pieces.push(Piece::Close(None))?;
-                self.opened -= 1;
-                self.expected = Expected::Operator { is_raised: false };
-            }
+            Effect::Opens(link) => self.open(link)?,
+            Effect::Encloses(expected) => self.enclose(expected)?,
+            Effect::Calls => self.call()?,
+            Effect::Closes => self.close()?,
+            Effect::Parts => self.part()?,
             Effect::Raises(power) => self.raise(power)?,
-            Effect::Opens(_) | Effect::OpensPower | Effect::Closes | Effect::Fails => {
-                return Err(ReadError::BadSyntax);
-            }
+            Effect::Dots => self.dot()?,
+            Effect::Fails => return Err(ReadError::BadSyntax),
         }
         Ok(())
     }
@@ -117,7 +247,7 @@ impl Reader {
         ensures { Gives (λ expr. expr) result (finished (reading_of self)) }
     {
         match self.expected {
-            Expected::Operator { .. } if self.opened == 0 => {
+            Expected::Operator(_) if self.opened.len() == 0 => {
                 let Reader { pieces, .. } = self;
                 Ok(Expr::from_vec(pieces))
             }

@@ -2,13 +2,18 @@ ghost use Rattle.std.specs.Prelude.{◌≡◌};
 ghost use Rattle.form_grammar.specs.Terminal.{mark_terminal as mark_terminal_of};
 
 use form_ast::{Number, Sign, Spelled};
-use form_lexer::{Mark, Token, TokenKind};
+use form_base::Spot;
+use form_lexer::{BuiltIn, Mark, Token, TokenKind};
 
-/// A token as the grammar sees it, without the spots of marks.
+/// A token as the grammar sees it, without the spots of marks. `i_` and `d_` stand in right sides alone.
 #[derive(Debug, Drop)]
 pub enum Terminal {
     Number(Number),
     Name(Spelled),
+    /// `i_`
+    Imaginary(Spot),
+    /// `d_`
+    Delta(Spot),
     Sign(Sign),
     Times,
     Over,
@@ -17,6 +22,7 @@ pub enum Terminal {
     Open,
     Close,
     Comma,
+    Period,
     Equals,
     /// A token that stands nowhere in the grammar.
     Other,
@@ -35,6 +41,7 @@ fn mark_terminal(mark: Mark) -> Terminal
         Mark::Open => Terminal::Open,
         Mark::Close => Terminal::Close,
         Mark::Comma => Terminal::Comma,
+        Mark::Period => Terminal::Period,
         Mark::Equals => Terminal::Equals,
         _ => Terminal::Other,
     }
@@ -52,7 +59,9 @@ impl From<Token> for Terminal {
             TokenKind::Number(value) => Terminal::Number(Number { value, spot }),
             TokenKind::Name(name) => Terminal::Name(Spelled { name, spot }),
             TokenKind::Mark(mark) => mark_terminal(mark),
-            TokenKind::BuiltIn(_) | TokenKind::Stray => Terminal::Other,
+            TokenKind::BuiltIn(BuiltIn::Imaginary) => Terminal::Imaginary(spot),
+            TokenKind::BuiltIn(BuiltIn::Delta) => Terminal::Delta(spot),
+            TokenKind::BuiltIn(BuiltIn::Gamma) | TokenKind::Stray => Terminal::Other,
         }
     }
 }

@@ -39,6 +39,13 @@ fn letters(piece: &Piece) -> (char, char, char) {
     match piece {
         Piece::Number(l, _, p) => (link(*l), 'n', power(p)),
         Piece::Name(l, _, p) => (link(*l), 'a', power(p)),
+        Piece::Dot(l, _) => (link(*l), 'p', '.'),
+        Piece::EndOfDot(_, p) => ('.', 'q', power(p)),
+        Piece::Delta(l, _, _) => (link(*l), 'd', '.'),
+        Piece::EndOfDelta(_, p) => ('.', 'e', power(p)),
+        Piece::Call(l, _) => (link(*l), 'f', '.'),
+        Piece::Comma => ('.', ',', '.'),
+        Piece::EndOfCall(p) => ('.', ';', power(p)),
         Piece::Open(l) => (link(*l), '(', '.'),
         Piece::Close(p) => ('.', ')', power(p)),
     }
@@ -74,13 +81,49 @@ fn reads_right_sides(rt: HostRuntime) -> Result<(), Fail> {
         "-(.+a..).*n^"
     );
     assert_eq!(rt; pieces_of(alloc, "(x)^(-0)")?.as_str(), "1(.1a..)%");
+    assert_eq!(rt;
+        pieces_of(alloc, "f(x,-g()^2)*p.q^-1/p.q")?.as_str(),
+        "1f.1a..,.-f..;^.;.*p..q^/p..q."
+    );
+    assert_eq!(rt;
+        pieces_of(alloc, "i_*d_(mu,2)^(3)+f(d_(i_,p))")?.as_str(),
+        "1a.*d..e%+f.1d..e..;."
+    );
     Ok(())
 }
 
 #[test]
 fn reads_nothing_else(rt: HostRuntime) -> Result<(), Fail> {
     let lines = [
-        "", "x y", "2*-3", "--x", "x^-1^2", "x/(y)", "(x)^-1", "(x", "x)", "x^y", "x^(2", "i_",
+        "",
+        "x y",
+        "2*-3",
+        "--x",
+        "x^-1^2",
+        "x/(y)",
+        "(x)^-1",
+        "(x",
+        "x)",
+        "x^y",
+        "x^(2",
+        "d_",
+        "d_(x)",
+        "d_(x,y,z)",
+        "d_(-x,y)",
+        "d_((x),y)",
+        "f(,x)",
+        "f(x,)",
+        "f(x",
+        "(x,y)",
+        "1/f(x)",
+        "f(x)^-1",
+        "p.d_",
+        "p.q.r",
+        "p.q(x)",
+        "g_(1)",
+        "1/d_(x,y)",
+        "f(x)(y)",
+        "2(x)",
     ];
     for line in lines {
         assert_eq!(rt; pieces_of(rt.alloc(), line)?.as_str(), "");

@@ -1,5 +1,4 @@
 pub mod Added
-pub mod Building
 pub mod Carried
 pub mod Collected
 pub mod Outcomes

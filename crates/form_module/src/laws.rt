@@ -14,4 +14,6 @@ pub fn one_module_outcome()
         (outcome other : Result (List Stored) Refusal) →
         IsModuleOutcome settings statements standing outcome →
         IsModuleOutcome settings statements standing other → outcome ≡ other }
-{}
+{
+    form_tree::laws::one_tree();
+}

@@ -17,16 +17,18 @@ fn right_side(alloc: Global, value: u128, power: i32) -> Result<Tree, AllocError
     ensures { IfOk result (λ right. (tree : Sum) × (right ≡ pieces_of_sum tree)) }
 {
     let mut pieces = Vec::new(alloc);
-    pieces.push(Piece::Number {
-        link: Link::Plus,
-        value,
-        power,
-    })?;
-    pieces.push(Piece::Stored {
-        link: Link::Plus,
-        expression: Id::new(2),
-        power: 1,
-    })?;
+    pieces.extend_from_slice(&[
+        Piece::Number {
+            link: Link::Plus,
+            value,
+            power,
+        },
+        Piece::Stored {
+            link: Link::Plus,
+            expression: Id::new(2),
+            power: 1,
+        },
+    ])?;
     Ok(Tree::from_vec(pieces))
 }
 

@@ -1,14 +1,18 @@
 -- What a map of names holds, against the list of its entries.
-use Rattle.std.proofs.Common.{◌≡◌, ℕ, ◌≤◌, Bool, true, false, arith, string_eq, List, [], ◌∷◌, ◌++◌, length, Some, None, cond, not, nat_lt, slice_get, position, refl, sym, ap, ◌∙◌, ◌+◌, zero, suc}
+use Rattle.std.proofs.Common.{◌≡◌, ℕ, ◌≤◌, Bool, true, false, arith, string_eq, List, [], ◌∷◌, ◌++◌, length, Some, None, cond, not, nat_lt, position, refl, sym, ap, ◌∙◌, ◌+◌, zero, suc, All, subst, slice_get}
 use Rattle.std.specs.Prelude.{String, string_bytes}
 use Rattle.std.specs.List.{prefix_len, position_or_len}
 use Rattle.std.proofs.lemmas.List.Sums.{prefix_len-le-length}
 use Rattle.indexmap.specs.IndexMap.{insert_entry}
+use Rattle.std.proofs.lemmas.List.Elements.{All-head, All-tail, All-push, All-weaker}
 use borrow.Author.Tests.{ltb-false}
 use Rattle.std.specs.Map.{keys_of, values_of}
 use Rattle.std.specs.Str.{bytes_eq}
 use Rattle.form_names.specs.declared.kind.Kind.{Kind}
-use Rattle.form_names.specs.Names.{entries_of, lookup, kind_at}
+use Rattle.form_names.specs.declared.kind.Kind.TheVariants as kinds
+use Rattle.form_names.specs.declared.kind.Dimension.{Dimension}
+use Rattle.form_names.specs.declared.kind.Dimension.TheVariants as dimensions
+use Rattle.form_names.specs.Names.{Entry, entries_of, lookup, kind_at, IsDimension, IsKind, AreLawful}
 
 pub prefix_len-keys : {A : Type 0} (name : List ℕ) (pairs : List (String A × Kind)) → prefix_len (λ key. not (bytes_eq name (string_bytes key))) (keys_of pairs) ≡ prefix_len (λ entry. not (bytes_eq name entry.name)) (entries_of pairs)
 prefix_len-keys name [] = refl
@@ -53,3 +57,36 @@ insert_entry-absent (pair ∷ pairs) key kind none =
 pub entries_of-push : {A : Type 0} (pairs : List (String A × Kind)) (key : String A) (kind : Kind) → entries_of (pairs ++ (key, kind) ∷ []) ≡ entries_of pairs ++ record { name = string_bytes key; kind = kind } ∷ []
 entries_of-push [] key kind = refl
 entries_of-push (pair ∷ pairs) key kind = ap (λ others. record { name = string_bytes pair.0; kind = pair.1 } ∷ others) (entries_of-push pairs key kind)
+
+-- ---- what names stand for
+
+kind_at-append : (names more : List Entry) (id : ℕ) (kind : Kind) → kind_at names id ≡ Some kind → kind_at (names ++ more) id ≡ Some kind
+kind_at-append [] more id kind is = cc
+kind_at-append (e ∷ es) more zero kind is = is
+kind_at-append (e ∷ es) more (suc id) kind is = kind_at-append es more id kind is
+
+dimension-append : (names more : List Entry) (d : Dimension) → IsDimension names d → IsDimension (names ++ more) d
+dimension-append names more (dimensions.Number n) h = h
+dimension-append names more (dimensions.Symbol id) h = kind_at-append names more id kinds.Symbol h
+
+kind-append : (names more : List Entry) (kind : Kind) → IsKind names kind → IsKind (names ++ more) kind
+kind-append names more kinds.Symbol h = h
+kind-append names more kinds.Vector h = h
+kind-append names more (kinds.Index d) h = dimension-append names more d h
+kind-append names more kinds.Function h = h
+kind-append names more kinds.CommutingFunction h = h
+kind-append names more kinds.Expression h = h
+
+-- one more name
+pub lawful-push : (names : List Entry) (e : Entry) → AreLawful names → IsKind names e.kind → AreLawful (names ++ e ∷ [])
+lawful-push names e h k =
+    All-push (λ entry. IsKind (names ++ e ∷ []) entry.kind) names e
+    (All-weaker (λ entry. IsKind names entry.kind) (λ entry. IsKind (names ++ e ∷ []) entry.kind) (λ entry. kind-append names (e ∷ []) entry.kind) names h)
+    (kind-append names (e ∷ []) e.kind k)
+
+-- the kind at a place is one that may stand
+pub kind-lawful : (all names : List Entry) (id : ℕ) (kind : Kind) → All (λ entry. IsKind all entry.kind) names → kind_at names id ≡ Some kind → IsKind all kind
+kind-lawful all [] id kind h is = cc
+kind-lawful all (e ∷ es) zero kind h is =
+    let same : e.kind ≡ kind = cc in subst (IsKind all) same (All-head (λ entry. IsKind all entry.kind) e es h)
+kind-lawful all (e ∷ es) (suc id) kind h is = kind-lawful all es id kind (All-tail (λ entry. IsKind all entry.kind) e es h) is

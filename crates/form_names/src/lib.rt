@@ -4,7 +4,7 @@
 mod kind;
 mod names;
 
-pub use kind::Kind;
+pub use kind::{Dimension, Kind};
 pub use names::{DeclareError, Names};
 
 #[cfg(test)]

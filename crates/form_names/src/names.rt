@@ -1,7 +1,7 @@
 ghost use Rattle.std.specs.Prelude.{◌≡◌, ◌<◌, ◌-◌, ◌^◌, ◌++◌, [], ◌∷◌, None, Some, Err, IfOk, IfSome, OnOk, OnErr, length};
-ghost use Rattle.form_names.specs.Names.{lookup, kind_at, name_at, declare};
+ghost use Rattle.form_names.specs.Names.{lookup, kind_at, dimension_at, name_at, declare, IsKind, IsDimension};
 
-use crate::Kind;
+use crate::{Dimension, Kind};
 use form_base::{Id, Name};
 use indexmap::IndexMap;
 use std::alloc::{AllocError, Global};
@@ -34,13 +34,13 @@ pub struct Names {
 
 impl Model for Names {
     ghost use Rattle.std.specs.Prelude.{◌<◌, ◌^◌, List, length};
-    ghost use Rattle.form_names.specs.Names.{Entry, entries_of};
+    ghost use Rattle.form_names.specs.Names.{Entry, entries_of, AreLawful};
 
     ghost Value = { List Entry };
 
     ghost view = { λ names. entries_of names.kinds.entries };
 
-    ghost invariant = { λ names. length (entries_of names.kinds.entries) < 2 ^ 32 };
+    ghost invariant = { λ names. (length (entries_of names.kinds.entries) < 2 ^ 32) × AreLawful (entries_of names.kinds.entries) };
 }
 
 impl Names {
@@ -60,9 +60,11 @@ impl Names {
     }
 
     /// Declares a name. One that stands with this kind keeps its `Id`, and any other one goes last. Where this is
-    /// refused, and where memory is wanting, all stays as it was.
+    /// refused, and where memory is wanting, all stays as it was. The dimension of an index is a number up to 1,000, or
+    /// a symbol that stands.
     pub fn declare(&mut self, name: Name, kind: Kind) -> Result<Id, DeclareError>
-        requires { length self.old < 2 ^ 32 - 1 }
+        requires room { length self.old < 2 ^ 32 - 1 }
+        requires lawful { IsKind self.old kind }
         ensures declared { IfOk result (λ id. declare self.old name kind ≡ Some (id, self.new)) }
         ensures redeclared { result ≡ Err DeclareError.Redeclared → declare self.old name kind ≡ None }
         ensures unchanged { OnErr result (self.new ≡ self.old) }
@@ -78,6 +80,7 @@ impl Names {
     fn push(&mut self, name: Name, kind: Kind) -> Result<Id, AllocError>
         requires new { lookup self.old name ≡ None }
         requires room { length self.old < 2 ^ 32 - 1 }
+        requires lawful { IsKind self.old kind }
         ensures id { IfOk result (λ id. id ≡ length self.old) }
         ensures last { OnOk result (self.new ≡ self.old ++ record { name = name; kind = kind } ∷ []) }
         ensures unchanged { OnErr result (self.new ≡ self.old) }
@@ -97,9 +100,22 @@ impl Names {
 
     pub fn kind(&self, id: Id) -> Kind
         requires { id < length self.now }
-        ensures { kind_at self.now id ≡ Some result }
+        ensures stands { kind_at self.now id ≡ Some result }
+        ensures lawful { IsKind self.now result }
     {
         self.kinds[id.position() as usize]
+    }
+
+    /// The dimension of an index, none for another name.
+    pub fn dimension(&self, id: Id) -> Option<Dimension>
+        requires { id < length self.now }
+        ensures stands { result ≡ dimension_at self.now id }
+        ensures lawful { IfSome result (IsDimension self.now) }
+    {
+        match self.kind(id) {
+            Kind::Index(dimension) => Some(dimension),
+            _ => None,
+        }
     }
 
     pub fn name(&self, id: Id) -> &str

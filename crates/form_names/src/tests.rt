@@ -1,6 +1,8 @@
 //! A name declared again keeps its position, and takes no other kind.
 
-use crate::{DeclareError, Kind, Names};
+ghost use Rattle.form_names.specs.Names.{IsKind};
+
+use crate::{DeclareError, Dimension, Kind, Names};
 use form_base::{Id, Name};
 use std::alloc::{AllocError, Global};
 use std::test::Fail;
@@ -11,7 +13,9 @@ fn declared(
     names: &mut Names,
     name: &str,
     kind: Kind,
-) -> Result<Option<u32>, AllocError> {
+) -> Result<Option<u32>, AllocError>
+    requires { IsKind names.old kind }
+{
     if names.len() > 9 {
         return Err(AllocError);
     }
@@ -20,6 +24,12 @@ fn declared(
         Err(DeclareError::Redeclared) => Ok(None),
         Err(DeclareError::Memory) => Err(AllocError),
     }
+}
+
+/// The dimension of the name, none where it is no index.
+fn dimension(names: &Names, name: &str) -> Option<Dimension> {
+    let id = names.lookup(name)?;
+    names.dimension(id)
 }
 
 #[test]
@@ -33,5 +43,12 @@ fn names_keep_their_positions(rt: HostRuntime) -> Result<(), Fail> {
     assert!(rt; first == Some(0) && second == Some(1) && again == Some(0));
     assert!(rt; otherwise == None && names.lookup("z") == None);
     assert!(rt; names.lookup("y") == Some(Id::new(1)));
+    let four = Kind::Index(Dimension::Number(4));
+    let five = Kind::Index(Dimension::Number(5));
+    let index = declared(alloc, &mut names, "mu", four)?;
+    let longer = declared(alloc, &mut names, "mu", five)?;
+    assert!(rt; index == Some(2) && longer == None);
+    assert!(rt; dimension(&names, "mu") == Some(Dimension::Number(4)));
+    assert!(rt; dimension(&names, "x") == None);
     Ok(())
 }

@@ -1,4 +1,8 @@
+pub mod Dots
+pub mod Large
 pub mod Lasting
 pub mod Limits
-pub mod Merging
-pub mod Ones
+pub mod Order
+pub mod Others
+pub mod Parts
+pub mod Powers

@@ -1,1 +1,3 @@
+pub mod Factors
+pub mod Lists
 pub mod Product

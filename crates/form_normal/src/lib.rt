@@ -1,11 +1,12 @@
-//! The normal form of products: coefficients multiplied, exponents added, and the limits kept.
+//! The normal form of products: coefficients multiplied, exponents added, lists joined in order, and the limits kept.
 #![tactic(auto)]
 
 mod factors;
 pub mod laws;
+mod merging;
 mod products;
 
-pub use factors::{multiply_by_number, multiply_by_power};
+pub use factors::{multiply, multiply_by_number, multiply_by_power};
 pub use products::{ProductError, product};
 
 #[cfg(test)]

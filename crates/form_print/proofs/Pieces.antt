@@ -4,10 +4,11 @@ use Rattle.std.specs.Prelude.{codes, flat_map}
 use Rattle.std.proofs.lemmas.List.{drop_more, take-append-drop}
 use Rattle.std.proofs.lemmas.Grind.{flat_map-append}
 use Rattle.form_base.specs.declared.name.Name.{Name}
-use Rattle.form_print.specs.Joined.{beginning, later_pieces}
+use Rattle.form_print.specs.Joined.{beginning, first_piece, later_piece, later_pieces}
 use Rattle.form_term.specs.declared.monomial.Monomial.{Monomial}
 use Rattle.form_names.specs.Names.{Entry}
-use Rattle.form_print.specs.Printing.{first_piece, later_piece, printed}
+use Rattle.form_term.specs.Monomial.{summands_of}
+use Rattle.form_print.specs.Printing.{later_term, printed}
 use Rattle.form_print.proofs.Joined.{join_with_byte-cons}
 
 -- the pieces of the terms before i, and those from it on
@@ -25,7 +26,7 @@ later_pieces-at names terms i term below is_term =
     ∙ ap (λ x. later_pieces names (take i terms) ++ ((32 ∷ later_piece names x) ++ later_pieces names (drop (i + 1) terms))) (sym is_term)
 
 -- pieces joined by a blank: each later one has a blank before it
-later_pieces-map : (names : List Entry) (ms : List Monomial) → flat_map (λ later. 32 ∷ later) (map (later_piece names) ms) ≡ later_pieces names ms
+later_pieces-map : (names : List Entry) (ms : List Monomial) → flat_map (λ later. 32 ∷ later) (map (later_term names) (summands_of ms)) ≡ later_pieces names ms
 later_pieces-map names [] = refl
 later_pieces-map names (m ∷ ms) = ap (λ x. (32 ∷ later_piece names m) ++ x) (later_pieces-map names ms)
 
@@ -37,7 +38,7 @@ around head first later last end = simp append_assoc
 printed-parts : (names : List Entry) (name : Name) (m : Monomial) (ms : List Monomial) → printed names name (m ∷ ms) ≡ beginning names name m ++ (later_pieces names ms ++ (59 ∷ 10 ∷ 10 ∷ []))
 printed-parts names name m ms =
     let head : List ℕ = 10 ∷ codes "   " ++ name ++ codes " =" ++ 10 ∷ codes "      " in
-    ap (λ x. head ++ x ++ codes ";" ++ 10 ∷ 10 ∷ []) (join_with_byte-cons 32 (first_piece names m) (map (later_piece names) ms) ∙ ap (λ x. first_piece names m ++ x) (later_pieces-map names ms))
+    ap (λ x. head ++ x ++ codes ";" ++ 10 ∷ 10 ∷ []) (join_with_byte-cons 32 (first_piece names m) (map (later_term names) (summands_of ms)) ∙ ap (λ x. first_piece names m ++ x) (later_pieces-map names ms))
     ∙ around head (first_piece names m) (later_pieces names ms) (codes ";") (10 ∷ 10 ∷ [])
 
 -- the same, of the terms that are kept

@@ -1,2 +1,4 @@
+pub mod Arguments
 pub mod Joined
 pub mod Printing
+pub mod Texts

@@ -1,15 +1,17 @@
-ghost use Rattle.std.specs.Prelude.{◌≡◌, ◌≢◌, ◌≤◌, true, ℕ, [], ◌∷◌, ◌++◌, Err, IfOk, OnOk, decimal, map, string_bytes};
+ghost use Rattle.std.specs.Prelude.{◌≡◌, ◌≢◌, ◌≤◌, true, ℕ, [], ◌∷◌, ◌++◌, ◌||◌, not, Err, IfOk, OnOk, string_bytes};
 ghost use Rattle.form_outside.specs.Faults.{HasRisen};
 ghost use Rattle.form_outside.specs.Taken.{Takes};
 ghost use Rattle.form_frac.specs.Fraction.{has_size_one as is_of_size_one};
-ghost use Rattle.form_print.specs.Joined.{beginning, later_factors, later_pieces};
-ghost use Rattle.form_print.specs.Printing.{factor_text, first_piece, later_piece, name_of, piece, printed, size_text};
+ghost use Rattle.form_print.specs.Joined.{beginning, first_piece, has_no_factors, is_first_behind, later_piece, later_pieces, piece, starred};
+ghost use Rattle.form_print.specs.Printing.{factor_texts, imaginary_texts, printed};
 
-use form_base::{Id, Name};
-use form_frac::Frac;
+use crate::call::push_functions;
+use crate::factor::{push_factors, push_star};
+use crate::size::{has_size_one, push_size};
+use form_base::Name;
 use form_names::Names;
 use form_outside::{Sink, SinkErr};
-use form_term::{Monomial, Power};
+use form_term::{Monomial, Term};
 use std::alloc::{AllocError, Global};
 
 /// Prints an expression: its name and its collected terms, in their order. `names` are those that are declared; an Id
@@ -35,7 +37,7 @@ pub fn print_expression<O: Sink>(
         push_zero(&mut text, name)?;
         return out.put(alloc, text.as_bytes());
     };
-    push_beginning(&mut text, names, name, first)?;
+    push_beginning(alloc, &mut text, names, name, first)?;
     out.put(alloc, text.as_bytes())?;
     put_later_pieces(alloc, out, &mut text, names, later)?;
     out.put(alloc, b";\n\n")
@@ -57,7 +59,7 @@ fn put_later_pieces<O: Sink>(
 {
     for term in terms {
         text.clear();
-        push_later_piece(text, names, term)?;
+        push_later_piece(alloc, text, names, term)?;
         out.put(alloc, text.as_bytes())?;
     }
     Ok(())
@@ -74,6 +76,7 @@ fn push_zero(text: &mut String, name: &Name) -> Result<(), AllocError>
 
 /// The name and the first piece.
 fn push_beginning(
+    alloc: Global,
     text: &mut String,
     names: &Names,
     name: &Name,
@@ -85,21 +88,31 @@ fn push_beginning(
     text.push_str("\n   ")?;
     text.push_str(name.as_str())?;
     text.push_str(" =\n      ")?;
-    push_first_piece(text, names, first)
+    push_first_piece(alloc, text, names, first)
 }
 
 /// A first piece has a sign where it is negative.
-fn push_first_piece(text: &mut String, names: &Names, term: &Monomial) -> Result<(), AllocError>
+fn push_first_piece(
+    alloc: Global,
+    text: &mut String,
+    names: &Names,
+    term: &Monomial,
+) -> Result<(), AllocError>
     ensures { OnOk result (string_bytes text.new ≡ string_bytes text.old ++ first_piece names.now term.now) }
 {
     if term.coefficient.is_negative() {
         text.push('-')?;
     }
-    push_piece(text, names, term)
+    push_piece(alloc, text, names, term)
 }
 
 /// A blank and a later piece, which always has a sign.
-fn push_later_piece(text: &mut String, names: &Names, term: &Monomial) -> Result<(), AllocError>
+fn push_later_piece(
+    alloc: Global,
+    text: &mut String,
+    names: &Names,
+    term: &Monomial,
+) -> Result<(), AllocError>
     ensures { OnOk result (string_bytes text.new ≡ string_bytes text.old ++ 32 ∷ later_piece names.now term.now) }
 {
     if term.coefficient.is_negative() {
@@ -107,75 +120,70 @@ fn push_later_piece(text: &mut String, names: &Names, term: &Monomial) -> Result
     } else {
         text.push_str(" + ")?;
     }
-    push_piece(text, names, term)
+    push_piece(alloc, text, names, term)
 }
 
 /// The coefficient's size and the factors. A size of 1 is left out where there is a factor.
-fn push_piece(text: &mut String, names: &Names, term: &Monomial) -> Result<(), AllocError>
+fn push_piece(
+    alloc: Global,
+    text: &mut String,
+    names: &Names,
+    term: &Monomial,
+) -> Result<(), AllocError>
     ensures { OnOk result (string_bytes text.new ≡ string_bytes text.old ++ piece names.now term.now) }
 {
-    let powers = term.term.powers();
-    let Some((first, later)) = powers.split_first() else {
-        return push_size(text, term.coefficient);
-    };
-    if has_size_one(term.coefficient) {
-        push_factor(text, names, first)?;
-        return push_later_factors(text, names, later);
+    if is_size_shown(term) {
+        push_size(text, term.coefficient)?;
+        return push_term(alloc, text, names, &term.term, false);
     }
-    push_size(text, term.coefficient)?;
-    push_later_factors(text, names, powers)
+    push_term(alloc, text, names, &term.term, true)
 }
 
-/// Whether a coefficient is 1 or -1.
-fn has_size_one(coefficient: Frac) -> bool
-    ensures { result ≡ is_of_size_one coefficient }
+/// Whether a term is a number, or its coefficient isn't 1 or -1.
+fn is_size_shown(term: &Monomial) -> bool
+    ensures { result ≡ (has_no_factors term.now.term || not (is_of_size_one term.now.coefficient)) }
 {
-    coefficient.numerator_size() == 1 && coefficient.is_whole()
+    is_one(&term.term) || !has_size_one(term.coefficient)
 }
 
-/// The size of a coefficient: n, or n/d.
-fn push_size(text: &mut String, coefficient: Frac) -> Result<(), AllocError>
-    ensures { OnOk result (string_bytes text.new ≡ string_bytes text.old ++ size_text coefficient) }
+/// Whether a term has no factors.
+fn is_one(term: &Term) -> bool
+    ensures { result ≡ has_no_factors term.now }
 {
-    let size = coefficient.numerator_size();
-    let denominator = coefficient.denominator();
-    if denominator == 1 {
-        write!(text, "{size}")
-    } else {
-        write!(text, "{size}/{denominator}")
-    }
+    term.powers().is_empty() && term.has_only_symbols()
 }
 
-/// The factors, each behind `*`.
-fn push_later_factors(text: &mut String, names: &Names, powers: &[Power]) -> Result<(), AllocError>
-    ensures { OnOk result (string_bytes text.new ≡ string_bytes text.old ++ later_factors names.now powers.now) }
+/// Puts the factors of a term, each behind `*`, but for the first one where nothing stands before it.
+fn push_term(
+    alloc: Global,
+    text: &mut String,
+    names: &Names,
+    term: &Term,
+    is_first: bool,
+) -> Result<(), AllocError>
+    ensures { OnOk result (string_bytes text.new
+        ≡ string_bytes text.old ++ starred is_first (factor_texts names.now term.now)) }
 {
-    for power in powers {
-        text.push('*')?;
-        push_factor(text, names, power)?;
-    }
+    let at_symbols = push_imaginary(text, term.is_imaginary(), is_first)?;
+    let at_dots = push_factors(alloc, text, names, term.powers(), at_symbols)?;
+    let at_components = push_factors(alloc, text, names, term.dots(), at_dots)?;
+    let at_deltas = push_factors(alloc, text, names, term.components(), at_components)?;
+    let at_functions = push_factors(alloc, text, names, term.deltas(), at_deltas)?;
+    let at_word = push_functions(alloc, text, names, term.functions(), at_functions)?;
+    push_factors(alloc, text, names, term.word(), at_word)?;
     Ok(())
 }
 
-/// A symbol with its power, which is left out where it is 1.
-fn push_factor(text: &mut String, names: &Names, power: &Power) -> Result<(), AllocError>
-    ensures { OnOk result (string_bytes text.new ≡ string_bytes text.old ++ factor_text names.now power.now) }
+/// Puts `i_` where it is there. Answers whether nothing stands there yet.
+fn push_imaginary(text: &mut String, is_imaginary: bool, is_first: bool) -> Result<bool, AllocError>
+    ensures put { OnOk result (string_bytes text.new
+        ≡ string_bytes text.old ++ starred is_first (imaginary_texts is_imaginary)) }
+    ensures first { IfOk result (λ first. first ≡ is_first_behind is_first (imaginary_texts is_imaginary)) }
 {
-    text.push_str(text_of(names, power.symbol))?;
-    let exponent = power.exponent;
-    if exponent == 1 {
-        return Ok(());
+    if !is_imaginary {
+        return Ok(is_first);
     }
-    write!(text, "^{exponent}")
-}
-
-/// A name by its position, nothing where none stands there.
-pub fn text_of(names: &Names, id: Id) -> &str
-    ensures { result.now ≡ name_of names.now id }
-{
-    if id.position() < names.len() {
-        names.name(id)
-    } else {
-        ""
-    }
+    push_star(text, is_first)?;
+    text.push_str("i_")?;
+    Ok(false)
 }

@@ -1,7 +1,7 @@
 -- The front of a definition.
 use Rattle.std.proofs.Common.{◌≡◌, List, [], ◌∷◌, ◌++◌, map, true, ◌&&◌, Option, Some, None, refl, sym, ap, subst, ◌∙◌}
 use Rattle.std.proofs.lemmas.Bool.{and_parts}
-use Rattle.std.proofs.lemmas.Option.{same_Some}
+use Rattle.std.proofs.lemmas.Option.{same_Some, none-some}
 use Rattle.form_base.specs.declared.spot.Spot.{Spot}
 use Rattle.form_ast.specs.declared.expr.Spelled.{Spelled}
 use Rattle.form_ast.specs.declared.expr.Piece.{Piece}
@@ -26,7 +26,10 @@ use Rattle.form_stmts.proofs.Excluded.{right_side}
 
 local_from : (o : Option Keyword) → is_local o ≡ true → o ≡ Some by_keyword.Local
 local_from None e = cc
-local_from (Some by_keyword.Symbols) e = cc
+local_from (Some (by_keyword.Names declared)) e = cc
+local_from (Some by_keyword.Indices) e = cc
+local_from (Some by_keyword.Dimension) e = cc
+local_from (Some by_keyword.Switch) e = cc
 local_from (Some by_keyword.Drop) e = cc
 local_from (Some by_keyword.Skip) e = cc
 local_from (Some by_keyword.Local) e = refl
@@ -131,3 +134,12 @@ module _ (tokens : List Token) (rest : List Terminal) (front : Front tokens) whe
       let keyword : Some by_keyword.Local ≡ Some h.keyword = sym front.spelled ∙ ap (λ (x : Spelled). keyword_of x.name) first ∙ h.spelled in
       let definition = follows_local h.keyword s h.rest (same_Some by_keyword.Local h.keyword keyword) h.follows in
       right_side h.rest (Equals ∷ rest) rest front.name (ap front_name (sym behind)) refl s definition
+
+-- a second name stands behind the first
+pub second_name : (tokens : List Token) (front : Front tokens) (k : Spelled) (after : List Terminal) → front_name (map terminal_of tokens) ≡ Some (k, after) → front_name after ≡ None → ⊥
+second_name tokens front k after e f =
+    let given : Spelled × List Terminal = (front.keyword, Name front.name ∷ Equals ∷ []) in
+    let got : Spelled × List Terminal = (k, after) in
+    let same : given ≡ got = same_Some given got (ap front_name (sym front.written) ∙ e) in
+    let behind : Name front.name ∷ Equals ∷ [] ≡ after = ap (λ (x : Spelled × List Terminal). x.1) same in
+    none-some (front.name, Equals ∷ []) (sym f ∙ ap front_name (sym behind))

@@ -7,12 +7,16 @@ use Rattle.form_ast.specs.declared.statement.Placed.{Placed}
 use Rattle.form_ast.specs.Lawful.{IsLawfulStatement, AreLawfulModules}
 use Rattle.form_grammar.specs.declared.terminal.Terminal.{Terminal}
 use Rattle.form_stmts.specs.declared.keyword.Keyword as keywords
-use Rattle.form_stmts.specs.declared.keyword.Keyword.TheVariants.{Symbols, Drop, Skip, Local, Print}
+use Rattle.form_stmts.specs.declared.keyword.Keyword.TheVariants.{Names, Indices, Switch, Drop, Skip, Local, Print}
+use Rattle.form_stmts.specs.declared.keyword.Keyword.TheVariants as keyword
 use Rattle.form_stmts.specs.Statement.{FollowsKeyword, IsStatement}
 use Rattle.form_stmts.specs.Program.{Item, statement, unfinished, instruction, AreModules}
 
 lawful_behind : (keyword : keywords.Keyword) (terminals : List Terminal) (s : Statement) → FollowsKeyword keyword terminals s → IsLawfulStatement s
-lawful_behind Symbols terminals s h = subst IsLawfulStatement (sym h.2) tt
+lawful_behind (Names declared) terminals s h = subst IsLawfulStatement (sym h.2) tt
+lawful_behind Indices terminals s h = subst IsLawfulStatement (sym h.2) tt
+lawful_behind keyword.Dimension terminals s h = subst IsLawfulStatement (sym h.2) tt
+lawful_behind Switch terminals s h = subst IsLawfulStatement (sym h.kept) tt
 lawful_behind Drop terminals s h = subst IsLawfulStatement (sym h.2) tt
 lawful_behind Skip terminals s h = subst IsLawfulStatement (sym h.2) tt
 lawful_behind Local terminals s h = subst IsLawfulStatement (sym h.kept) (record { tree = h.right_side.tree; lawful = h.right_side.lawful; pieces = h.right_side.kept })

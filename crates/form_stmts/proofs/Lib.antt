@@ -1,4 +1,6 @@
 pub mod Ascii
+pub mod Declared
+pub mod Either
 pub mod Excluded
 pub mod Fronts
 pub mod Going

@@ -46,6 +46,9 @@ mutual
   after_name (by_terminal.Close ∷ rest) may_be_none names out e = absurd cc
   after_name (by_terminal.Equals ∷ rest) may_be_none names out e = absurd cc
   after_name (by_terminal.Other ∷ rest) may_be_none names out e = absurd cc
+  after_name (by_terminal.Imaginary n ∷ rest) may_be_none names out e = absurd cc
+  after_name (by_terminal.Delta n ∷ rest) may_be_none names out e = absurd cc
+  after_name (by_terminal.Period ∷ rest) may_be_none names out e = absurd cc
 
   after_a_comma : (terminals : List Terminal) (may_be_none : Bool) (names out : List Spelled) → names_from may_be_none Comma names terminals ≡ Some out → AreFurther names (by_terminal.Comma ∷ terminals) out
   after_a_comma [] may_be_none names out e = absurd cc
@@ -60,6 +63,9 @@ mutual
   after_a_comma (by_terminal.Close ∷ rest) may_be_none names out e = absurd cc
   after_a_comma (by_terminal.Equals ∷ rest) may_be_none names out e = absurd cc
   after_a_comma (by_terminal.Other ∷ rest) may_be_none names out e = absurd cc
+  after_a_comma (by_terminal.Imaginary n ∷ rest) may_be_none names out e = absurd cc
+  after_a_comma (by_terminal.Delta n ∷ rest) may_be_none names out e = absurd cc
+  after_a_comma (by_terminal.Period ∷ rest) may_be_none names out e = absurd cc
 
 -- what is read from the start, where there is something
 from_start : (terminals : List Terminal) (may_be_none : Bool) (out : List Spelled) → names_from may_be_none Nothing [] terminals ≡ Some out
@@ -80,6 +86,9 @@ from_start (by_terminal.Open ∷ rest) may_be_none out e = absurd cc
 from_start (by_terminal.Close ∷ rest) may_be_none out e = absurd cc
 from_start (by_terminal.Equals ∷ rest) may_be_none out e = absurd cc
 from_start (by_terminal.Other ∷ rest) may_be_none out e = absurd cc
+from_start (by_terminal.Imaginary n ∷ rest) may_be_none out e = absurd cc
+from_start (by_terminal.Delta n ∷ rest) may_be_none out e = absurd cc
+from_start (by_terminal.Period ∷ rest) may_be_none out e = absurd cc
 
 -- further names are read
 read_further : (others : List Further) (may_be_none : Bool) (names : List Spelled) → names_from may_be_none Name names (flat_map written_further others) ≡ Some (names ++ map spelled others)

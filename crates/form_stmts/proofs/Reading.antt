@@ -10,7 +10,8 @@ use Rattle.form_grammar.specs.declared.terminal.Terminal.{Terminal}
 use Rattle.form_stmts.specs.Program.{Lexed, items, AreLexed, IsRefusedAt, IsRefused, AreModules, IsProgram}
 use Rattle.form_stmts.proofs.Lines.{lines_lexed}
 use Rattle.form_stmts.proofs.Unique as unique
-use Rattle.form_stmts.proofs.Unique.{IsOne, IsOrNot, all_lexed, one_statement, statement_or_not, one_of_both}
+use Rattle.form_stmts.proofs.Either.{IsOne, IsOrNot}
+use Rattle.form_stmts.proofs.Unique.{all_lexed, one_statement, statement_or_not, one_of_both}
 
 -- what is read of lines, where some line has tokens
 pub some : ((spot : Spot) (text : List ℕ) → (tokens : List Token) × AreTokens spot text tokens) → ((terminals : List Terminal) → IsOne (IsExpr terminals)) → ((terminals : List Terminal) → IsOrNot (IsExpr terminals))

@@ -16,21 +16,17 @@ use Rattle.form_grammar.specs.Terminal.{terminal_of}
 use Rattle.form_grammar.specs.declared.terminal.Terminal.{Terminal}
 use Rattle.form_grammar.specs.declared.terminal.Terminal.TheVariants as by_terminal
 use Rattle.form_stmts.specs.declared.keyword.Keyword as keywords
-use Rattle.form_stmts.specs.declared.keyword.Keyword.TheVariants.{Symbols, Drop, Skip, Local, Print}
+use Rattle.form_stmts.specs.declared.keyword.Keyword.TheVariants.{Names, Indices, Switch, Drop, Skip, Local, Print}
+use Rattle.form_stmts.specs.declared.keyword.Keyword.TheVariants as keyword
 use Rattle.form_stmts.specs.Instruction.{begins_with_period, is_module_instruction}
 use Rattle.form_stmts.specs.Keyword.{keyword_of}
 use Rattle.form_stmts.specs.Reading.{front_name, after_equals}
-use Rattle.form_stmts.specs.Statement.{AreNames, AreNamesOrNone, IsDefinition, FollowsKeyword, IsStatement}
+use Rattle.form_stmts.specs.Statement.{AreNames, AreNamesOrNone, AreIndices, IsDimension, IsDefinition, FollowsKeyword, IsStatement}
 use Rattle.form_stmts.specs.Program.{Lexed, token, period, Item, statement, unfinished, instruction, IsLexed, AreLexed, StandsAt, IsRefusedAt, AreModules}
 use Rattle.form_stmts.proofs.Listed.{one_list, one_list_or_none, names_or_not, names_or_none_or_not}
 use Rattle.form_stmts.proofs.Excluded.{right_side}
-
--- something is so, or it isn't
-abbrev pub IsOrNot : {X : Type 0} → (X → Type 0) → Type 0
-IsOrNot {X} P = ((x : X) × P x) ⊎ ((x : X) → P x → ⊥)
-
-abbrev pub IsOne : {X : Type 0} → (X → Type 0) → Type 0
-IsOne {X} P = (x y : X) → P x → P y → x ≡ y
+use Rattle.form_stmts.proofs.Declared.{one_indices, one_dimension, indices_or_not, dimension_or_not, switch_or_not}
+use Rattle.form_stmts.proofs.Either.{IsOrNot, IsOne}
 
 front_name_is : (terminals : List Terminal) (x : Spelled × List Terminal) → front_name terminals ≡ Some x → terminals ≡ by_terminal.Name x.0 ∷ x.1
 front_name_is [] x e = absurd cc
@@ -45,6 +41,9 @@ front_name_is (by_terminal.Close ∷ rest) x e = absurd cc
 front_name_is (by_terminal.Comma ∷ rest) x e = absurd cc
 front_name_is (by_terminal.Equals ∷ rest) x e = absurd cc
 front_name_is (by_terminal.Other ∷ rest) x e = absurd cc
+front_name_is (by_terminal.Imaginary n ∷ rest) x e = absurd cc
+front_name_is (by_terminal.Delta n ∷ rest) x e = absurd cc
+front_name_is (by_terminal.Period ∷ rest) x e = absurd cc
 
 after_equals_is : (terminals rest : List Terminal) → after_equals terminals ≡ Some rest → terminals ≡ by_terminal.Equals ∷ rest
 after_equals_is [] rest e = absurd cc
@@ -59,6 +58,9 @@ after_equals_is (by_terminal.Open ∷ others) rest e = absurd cc
 after_equals_is (by_terminal.Close ∷ others) rest e = absurd cc
 after_equals_is (by_terminal.Comma ∷ others) rest e = absurd cc
 after_equals_is (by_terminal.Other ∷ others) rest e = absurd cc
+after_equals_is (by_terminal.Imaginary n ∷ others) rest e = absurd cc
+after_equals_is (by_terminal.Delta n ∷ others) rest e = absurd cc
+after_equals_is (by_terminal.Period ∷ others) rest e = absurd cc
 
 behind_name : (terminals rest : List Terminal) (name other : Spelled) (others : List Terminal) → front_name terminals ≡ Some (name, rest) → terminals ≡ by_terminal.Name other ∷ others → rest ≡ others
 behind_name terminals rest name other others e f =
@@ -82,7 +84,10 @@ module _ (one_expr : (terminals : List Terminal) → IsOne (IsExpr terminals)) (
       h.kept ∙ ap (λ (n : Spelled). statements.Local n h.pieces) names ∙ ap (λ (p : List Piece). statements.Local k.name p) pieces ∙ sym k.kept
 
   one_behind : (keyword : keywords.Keyword) (terminals : List Terminal) → IsOne (FollowsKeyword keyword terminals)
-  one_behind Symbols terminals s t h k = h.2 ∙ ap statements.Symbols (one_list terminals h.0 k.0 h.1 k.1) ∙ sym k.2
+  one_behind (Names declared) terminals s t h k = h.2 ∙ ap (statements.Names declared) (one_list terminals h.0 k.0 h.1 k.1) ∙ sym k.2
+  one_behind Indices terminals s t h k = h.2 ∙ ap statements.Indices (one_indices terminals h.0 k.0 h.1 k.1) ∙ sym k.2
+  one_behind keyword.Dimension terminals s t h k = h.2 ∙ ap statements.Dimension (one_dimension terminals h.0 k.0 h.1 k.1) ∙ sym k.2
+  one_behind Switch terminals s t h k = h.kept ∙ sym k.kept
   one_behind Drop terminals s t h k = h.2 ∙ ap statements.Drop (one_list_or_none terminals h.0 k.0 h.1 k.1) ∙ sym k.2
   one_behind Skip terminals s t h k = h.2 ∙ ap statements.Skip (one_list_or_none terminals h.0 k.0 h.1 k.1) ∙ sym k.2
   one_behind Local terminals s t h k = one_definition terminals s t h k
@@ -122,7 +127,10 @@ module _ (one_expr : (terminals : List Terminal) → IsOne (IsExpr terminals)) (
     by_name (Some x) e = by_equals x.0 x.1 e (after_equals x.1) refl
 
   behind_or_not : (keyword : keywords.Keyword) (terminals : List Terminal) → IsOrNot (FollowsKeyword keyword terminals)
-  behind_or_not Symbols terminals = mapped (AreNames terminals) (FollowsKeyword Symbols terminals) (λ p. (statements.Symbols p.0, (p.0, p.1, refl))) (λ s h. (h.0, h.1)) (names_or_not terminals)
+  behind_or_not (Names declared) terminals = mapped (AreNames terminals) (FollowsKeyword (Names declared) terminals) (λ p. (statements.Names declared p.0, (p.0, p.1, refl))) (λ s h. (h.0, h.1)) (names_or_not terminals)
+  behind_or_not Indices terminals = mapped (AreIndices terminals) (FollowsKeyword Indices terminals) (λ p. (statements.Indices p.0, (p.0, p.1, refl))) (λ s h. (h.0, h.1)) (indices_or_not terminals)
+  behind_or_not keyword.Dimension terminals = mapped (IsDimension terminals) (FollowsKeyword keyword.Dimension terminals) (λ p. (statements.Dimension p.0, (p.0, p.1, refl))) (λ s h. (h.0, h.1)) (dimension_or_not terminals)
+  behind_or_not Switch terminals = switch_or_not terminals
   behind_or_not Drop terminals = mapped (AreNamesOrNone terminals) (FollowsKeyword Drop terminals) (λ p. (statements.Drop p.0, (p.0, p.1, refl))) (λ s h. (h.0, h.1)) (names_or_none_or_not terminals)
   behind_or_not Skip terminals = mapped (AreNamesOrNone terminals) (FollowsKeyword Skip terminals) (λ p. (statements.Skip p.0, (p.0, p.1, refl))) (λ s h. (h.0, h.1)) (names_or_none_or_not terminals)
   behind_or_not Local terminals = definition_or_not terminals

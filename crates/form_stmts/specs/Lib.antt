@@ -1,4 +1,5 @@
 pub mod Begun
+pub mod Indices
 pub mod Instruction
 pub mod Keyword
 pub mod Line

@@ -1,15 +1,19 @@
 -- The statements that terminals are.
-use Rattle.std.specs.Prelude.{◌≡◌, ◌⊎◌, List, [], ◌∷◌, map, flat_map, Bool, Some, if◌then◌else◌}
+use Rattle.std.specs.Prelude.{◌≡◌, ◌⊎◌, List, [], ◌∷◌, ◌++◌, map, flat_map, codes, Bool, IsTrue, Option, Some, None, if◌then◌else◌}
 use Rattle.form_ast.specs.declared.expr.Spelled.{Spelled}
 use Rattle.form_ast.specs.declared.expr.Piece.{Piece}
+use Rattle.form_ast.specs.declared.index_list.Dimension.{Dimension}
+use Rattle.form_ast.specs.declared.index_list.Dimension.TheVariants as dimension
+use Rattle.form_ast.specs.declared.index_list.SpelledIndex.{SpelledIndex}
 use Rattle.form_ast.specs.declared.statement.Statement.{Statement}
 use Rattle.form_ast.specs.declared.statement.Statement.TheVariants as statements
 use Rattle.form_grammar.specs.Grammar.{IsExpr}
 use Rattle.form_grammar.specs.declared.terminal.Terminal.{Terminal}
-use Rattle.form_grammar.specs.declared.terminal.Terminal.TheVariants.{Name, Comma, Equals}
+use Rattle.form_grammar.specs.declared.terminal.Terminal.TheVariants.{Number, Name, Comma, Equals}
 use Rattle.form_stmts.specs.declared.keyword.Keyword.{Keyword}
-use Rattle.form_stmts.specs.declared.keyword.Keyword.TheVariants.{Symbols, Drop, Skip, Local, Print}
-use Rattle.form_stmts.specs.Keyword.{keyword_of}
+use Rattle.form_stmts.specs.declared.keyword.Keyword.TheVariants.{Names, Indices, Switch, Drop, Skip, Local, Print}
+use Rattle.form_stmts.specs.declared.keyword.Keyword.TheVariants as keyword
+use Rattle.form_stmts.specs.Keyword.{is_one_of, keyword_of}
 
 -- a further name, behind a comma or none
 pub record Further : Type 0 where
@@ -30,6 +34,44 @@ pub record AreNames (terminals : List Terminal) (names : List Spelled) : Type 0 
 abbrev pub AreNamesOrNone : List Terminal → List Spelled → Type 0
 AreNamesOrNone terminals names = ((terminals ≡ []) × (names ≡ [])) ⊎ AreNames terminals names
 
+-- number | name
+abbrev pub written_dimension : Dimension → Terminal
+written_dimension (dimension.Number n) = Number n
+written_dimension (dimension.Name name) = Name name
+
+abbrev pub written_dimension_of : Option Dimension → List Terminal
+written_dimension_of None = []
+written_dimension_of (Some d) = Equals ∷ written_dimension d ∷ []
+
+-- name [ "=" dimension ]
+abbrev pub written_index : SpelledIndex → List Terminal
+written_index index = Name index.name ∷ written_dimension_of index.dimension
+
+-- a further index, behind a comma or none
+pub record FurtherIndex : Type 0 where
+  pub has_comma : Bool
+  pub index : SpelledIndex
+
+abbrev pub written_further_index : FurtherIndex → List Terminal
+written_further_index f = if f.has_comma then Comma ∷ written_index f.index else written_index f.index
+
+-- index { [","] index }
+pub record AreIndices (terminals : List Terminal) (indices : List SpelledIndex) : Type 0 where
+  pub first : SpelledIndex
+  pub others : List FurtherIndex
+  pub written : terminals ≡ written_index first ++ flat_map written_further_index others
+  pub kept : indices ≡ first ∷ map (λ f. f.index) others
+
+abbrev pub IsDimension : List Terminal → Dimension → Type 0
+IsDimension terminals d = terminals ≡ written_dimension d ∷ []
+
+-- `statistics`, in any case of letters
+pub record IsSwitch (terminals : List Terminal) (statement : Statement) : Type 0 where
+  pub word : Spelled
+  pub written : terminals ≡ Name word ∷ []
+  pub spelled : IsTrue (is_one_of word.name (codes "statistics" ∷ []))
+  pub kept : statement ≡ statements.Statistics
+
 -- name "=" expr
 pub record IsDefinition (terminals : List Terminal) (statement : Statement) : Type 0 where
   pub name : Spelled
@@ -41,7 +83,10 @@ pub record IsDefinition (terminals : List Terminal) (statement : Statement) : Ty
 
 -- what follows the keyword
 abbrev pub FollowsKeyword : Keyword → List Terminal → Statement → Type 0
-FollowsKeyword Symbols terminals statement = (names : List Spelled) × AreNames terminals names × (statement ≡ statements.Symbols names)
+FollowsKeyword (Names declared) terminals statement = (names : List Spelled) × AreNames terminals names × (statement ≡ statements.Names declared names)
+FollowsKeyword Indices terminals statement = (indices : List SpelledIndex) × AreIndices terminals indices × (statement ≡ statements.Indices indices)
+FollowsKeyword keyword.Dimension terminals statement = (d : Dimension) × IsDimension terminals d × (statement ≡ statements.Dimension d)
+FollowsKeyword Switch terminals statement = IsSwitch terminals statement
 FollowsKeyword Drop terminals statement = (names : List Spelled) × AreNamesOrNone terminals names × (statement ≡ statements.Drop names)
 FollowsKeyword Skip terminals statement = (names : List Spelled) × AreNamesOrNone terminals names × (statement ≡ statements.Skip names)
 FollowsKeyword Local terminals statement = IsDefinition terminals statement

@@ -1,24 +1,63 @@
 ghost use Rattle.std.specs.Prelude.{◌≡◌};
-ghost use Rattle.form_stmts.specs.Keyword.{keyword_of as keyword_spelled};
+ghost use Rattle.form_stmts.specs.Keyword.{declared_by as declared_by_name, setting_keyword, expression_keyword, keyword_of as keyword_spelled};
+
+use form_ast::Declared;
 
 /// What a statement does, by its first name.
 #[derive(Clone, Copy, Debug, PartialEq, Eq)]
 pub enum Keyword {
-    Symbols,
+    /// Names are declared, other than indices.
+    Names(Declared),
+    Indices,
+    Dimension,
+    /// `On` or `Off`.
+    Switch,
     Drop,
     Skip,
     Local,
     Print,
 }
 
-/// The keyword that the name is, in any case of letters.
-pub fn keyword_of(name: &str) -> Option<Keyword>
-    ensures { result ≡ keyword_spelled name.now }
+/// What the keyword declares, if names other than indices.
+fn declared_by(name: &str) -> Option<Declared>
+    ensures { result ≡ declared_by_name name.now }
 {
     let is = |word: &str| name.eq_ignore_ascii_case(word);
     if is("symbols") || is("symbol") || is("s") {
-        Some(Keyword::Symbols)
-    } else if is("drop") {
+        Some(Declared::Symbols)
+    } else if is("vectors") || is("vector") || is("v") {
+        Some(Declared::Vectors)
+    } else if is("functions") || is("function") || is("f") {
+        Some(Declared::Functions)
+    } else if is("cfunctions") || is("cfunction") || is("cf") {
+        Some(Declared::CFunctions)
+    } else {
+        None
+    }
+}
+
+/// The keyword of what else is declared, and of what is switched.
+fn setting(name: &str) -> Option<Keyword>
+    ensures { result ≡ setting_keyword name.now }
+{
+    let is = |word: &str| name.eq_ignore_ascii_case(word);
+    if is("indices") || is("index") || is("i") {
+        Some(Keyword::Indices)
+    } else if is("dimension") {
+        Some(Keyword::Dimension)
+    } else if is("on") || is("off") {
+        Some(Keyword::Switch)
+    } else {
+        None
+    }
+}
+
+/// The keyword of what concerns expressions.
+fn of_expressions(name: &str) -> Option<Keyword>
+    ensures { result ≡ expression_keyword name.now }
+{
+    let is = |word: &str| name.eq_ignore_ascii_case(word);
+    if is("drop") {
         Some(Keyword::Drop)
     } else if is("skip") {
         Some(Keyword::Skip)
@@ -28,5 +67,19 @@ pub fn keyword_of(name: &str) -> Option<Keyword>
         Some(Keyword::Print)
     } else {
         None
+    }
+}
+
+/// The keyword that the name is, in any case of letters.
+#[tactic(auto, unfolding(crate::specs::Keyword::keyword_of))]
+pub fn keyword_of(name: &str) -> Option<Keyword>
+    ensures { result ≡ keyword_spelled name.now }
+{
+    match declared_by(name) {
+        Some(declared) => Some(Keyword::Names(declared)),
+        None => match setting(name) {
+            Some(keyword) => Some(keyword),
+            None => of_expressions(name),
+        },
     }
 }

@@ -2,6 +2,7 @@
 #![tactic(auto)]
 
 mod error;
+mod indices;
 mod instruction;
 mod keyword;
 pub mod laws;

@@ -8,6 +8,7 @@ ghost use Rattle.form_stmts.specs.Begun.{AreBegun, is_equals_kind, is_front, is_
 ghost use Rattle.form_stmts.specs.Reading.{after_equals, front_name, terminals, with_rest};
 ghost use Rattle.form_stmts.specs.Statement.{FollowsKeyword, IsDefinition, IsStatement};
 
+use crate::indices::{read_dimension, read_indices, read_switch};
 use crate::keyword::{Keyword, keyword_of};
 use crate::names::{read_names, read_names_or_none};
 use form_ast::{Spelled, Statement};
@@ -64,10 +65,19 @@ fn read_behind(
     ensures none { IfErr result (λ error. Excludes error (FollowsKeyword keyword (terminals tokens))) }
 {
     match keyword {
-        Keyword::Symbols => match read_names(alloc, tokens) {
-            Ok(names) => Ok(Statement::Symbols(names)),
+        Keyword::Names(declared) => match read_names(alloc, tokens) {
+            Ok(names) => Ok(Statement::Names(declared, names)),
             Err(error) => Err(error),
         },
+        Keyword::Indices => match read_indices(alloc, tokens) {
+            Ok(indices) => Ok(Statement::Indices(indices)),
+            Err(error) => Err(error),
+        },
+        Keyword::Dimension => match read_dimension(tokens) {
+            Ok(dimension) => Ok(Statement::Dimension(dimension)),
+            Err(error) => Err(error),
+        },
+        Keyword::Switch => read_switch(tokens),
         Keyword::Drop => match read_names_or_none(alloc, tokens) {
             Ok(names) => Ok(Statement::Drop(names)),
             Err(error) => Err(error),

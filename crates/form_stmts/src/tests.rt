@@ -9,7 +9,10 @@ use std::test::Fail;
 /// A statement's letter, and how many names or pieces it has.
 fn letter(statement: &Statement) -> (char, usize) {
     match statement {
-        Statement::Symbols(names) => ('s', names.as_slice().len()),
+        Statement::Names(_, names) => ('s', names.as_slice().len()),
+        Statement::Indices(indices) => ('i', indices.as_slice().len()),
+        Statement::Dimension(_) => ('n', 1),
+        Statement::Statistics => ('o', 0),
         Statement::Drop(names) => ('d', names.as_slice().len()),
         Statement::Skip(names) => ('k', names.as_slice().len()),
         Statement::Local(_, expr) => ('l', expr.as_slice().len()),
@@ -66,6 +69,12 @@ fn reads_programs(rt: HostRuntime) -> Result<(), Fail> {
         "\t.END ;",
     ];
     assert_eq!(rt; read(rt.alloc(), &texts)?.as_str(), "s3l2.d0k2p1.");
+    let texts = [
+        "V p q; Index mu nu=4,ro=n; Dimension n; CF f;",
+        "ON Statistics; Functions A;",
+        ".end",
+    ];
+    assert_eq!(rt; read(rt.alloc(), &texts)?.as_str(), "s2i3n1s1o0s1.");
     Ok(())
 }
 
@@ -85,5 +94,15 @@ fn refuses_the_first_by_place(rt: HostRuntime) -> Result<(), Fail> {
         "line 2"
     );
     assert_eq!(rt; read(alloc, &["Symbols;", ".end"])?.as_str(), "line 1");
+    assert_eq!(rt;
+        read(alloc, &["I mu=1;", "I mu=;", ".end"])?.as_str(),
+        "line 2"
+    );
+    assert_eq!(rt;
+        read(alloc, &["Dimension 1 2;", ".end"])?.as_str(),
+        "line 1"
+    );
+    assert_eq!(rt; read(alloc, &["On;", ".end"])?.as_str(), "line 1");
+    assert_eq!(rt; read(alloc, &["V p;", "V i_;", ".end"])?.as_str(), "line 2");
     Ok(())
 }

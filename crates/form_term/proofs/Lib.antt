@@ -1,1 +1,3 @@
+pub mod Dots
 pub mod Left
+pub mod Nesting

@@ -1,4 +1,12 @@
+pub mod Calls
+pub mod Factor
+pub mod FactorLaws
+pub mod Factors
+pub mod Feeding
 pub mod Monomial
+pub mod Pieces
 pub mod PowerLaws
+pub mod SymbolLaws
 pub mod Term
 pub mod TermLaws
+pub mod Terms

@@ -1,7 +1,7 @@
 -- A term with its coefficient.
-use Rattle.std.specs.Prelude.{pos}
+use Rattle.std.specs.Prelude.{pos, List, map}
 use Rattle.form_frac.specs.Fraction.{whole, negate}
-use Rattle.form_term.specs.Term.{one}
+use Rattle.form_term.specs.Term.{one, Summand}
 use Rattle.form_term.specs.declared.monomial.Monomial.{Monomial}
 
 -- 1
@@ -10,3 +10,7 @@ unit = record { coefficient = whole (pos 1); term = one }
 
 abbrev pub negated : Monomial → Monomial
 negated m = record { coefficient = negate m.coefficient; term = m.term }
+
+-- terms with their coefficients as those of an expression
+abbrev pub summands_of : List Monomial → List Summand
+summands_of ms = map (λ m. record { coefficient = m.coefficient; term = m.term }) ms

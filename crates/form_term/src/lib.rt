@@ -1,15 +1,26 @@
 //! Terms: what stands beside a coefficient, with their order and their size.
 #![tactic(auto)]
 
+mod arguments;
+mod call;
+mod factor;
+mod index;
 pub mod laws;
 mod monomial;
 mod order;
+mod others;
+mod piece;
 mod power;
 mod term;
 
+pub use arguments::Arguments;
+pub use call::Call;
+pub use index::{Component, Delta, Index};
 pub use monomial::Monomial;
 pub use order::compare;
-pub use power::Power;
+pub use others::Others;
+pub use piece::{Coefficient, Piece};
+pub use power::{DotPower, Power};
 pub use term::Term;
 
 #[cfg(test)]

@@ -1,27 +1,47 @@
-ghost use Rattle.std.specs.Prelude.{◌≡◌, ◌≤◌, ◌++◌, [], ◌∷◌, nat_abs, IfOk, OnOk};
-ghost use Rattle.form_term.specs.Term.{IsTerm, one, of_symbols, symbol_power, largest_exponent, size, depth};
+ghost use Rattle.std.specs.Prelude.{◌≡◌, ◌≤◌, ◌++◌, [], ◌∷◌, nat_abs, fold, IfOk, OnOk, OnErr};
+ghost use Rattle.form_term.specs.Feeding.{fed_others};
+ghost use Rattle.form_term.specs.Term.{IsTerm, nothing, is_nothing, one, of_symbols, of_others, symbol_power, largest_exponent, size, depth};
+ghost use Rattle.form_term.specs.Terms.{term};
 
-use crate::{Power, compare};
+use crate::{Call, Component, Delta, DotPower, Others, Power, compare};
 use form_base::Id;
 use std::alloc::{AllocError, Global};
 use std::cmp::Ordering;
 use std::hash::{Hash, Hasher};
 use std::marker::Model;
 
-/// A term: a product of powers of symbols so far. It has the symbols whose exponent isn't 0, in order of declaration.
+/// A term: a product of powers of symbols and of other factors. It has the symbols whose exponent isn't 0, in order of
+/// declaration. A term of symbols alone takes no memory for the rest, and has four words.
 #[derive(Debug, Drop)]
 pub struct Term {
+    factors: Factors,
+}
+
+/// The factors of a term.
+#[derive(Debug, Drop)]
+enum Factors {
+    /// Powers of symbols alone.
+    Symbols(Vec<Power>),
+    /// Powers of symbols, and others, of which there are some.
+    Mixed(Box<Mixed>),
+}
+
+#[derive(Debug, Drop)]
+struct Mixed {
     symbols: Vec<Power>,
+    others: Others,
 }
 
 impl Model for Term {
     ghost use Rattle.form_term.specs.Term as terms;
+    ghost use Rattle.form_term.specs.Factors.{symbols_in, others_in, HasOthers};
+    ghost use Rattle.form_term.specs.Terms.{term};
 
     ghost Value = { terms.Term };
 
-    ghost view = { λ t. terms.of_symbols t.symbols.items };
+    ghost view = { λ t. term (symbols_in t.factors) (others_in t.factors) };
 
-    ghost invariant = { λ t. terms.IsTerm (terms.of_symbols t.symbols.items) };
+    ghost invariant = { λ t. terms.IsTerm (term (symbols_in t.factors) (others_in t.factors)) × HasOthers t.factors };
 }
 
 impl Term {
@@ -30,21 +50,22 @@ impl Term {
         ensures { result ≡ one }
     {
         Term {
-            symbols: Vec::new(alloc),
+            factors: Factors::Symbols(Vec::new(alloc)),
         }
     }
 
     /// A power of one symbol, 1 where the exponent is 0.
-    #[tactic(auto, unfolding(crate::specs::Term::symbol_power))]
+    #[tactic(auto, using(crate::specs::TermLaws::power_lawful), unfolding(crate::specs::Term::symbol_power))]
     pub fn symbol(alloc: Global, symbol: Id, exponent: i32) -> Result<Term, AllocError>
         requires { nat_abs exponent ≤ largest_exponent }
         ensures { IfOk result (λ term. term ≡ symbol_power symbol exponent) }
     {
-        let mut symbols = Vec::new(alloc);
-        if exponent != 0 {
-            symbols.push(Power { symbol, exponent })?;
+        if exponent == 0 {
+            return Ok(Term::one(alloc));
         }
-        Ok(Term { symbols })
+        let mut powers = Vec::new(alloc);
+        powers.push(Power { symbol, exponent })?;
+        Ok(Term::from_powers(powers))
     }
 
     /// The product of these powers, in order of declaration of their symbols.
@@ -52,15 +73,43 @@ impl Term {
         requires { IsTerm (of_symbols powers.items) }
         ensures { result ≡ of_symbols powers.items }
     {
-        Term { symbols: powers }
+        Term {
+            factors: Factors::Symbols(powers),
+        }
+    }
+
+    /// The product of these powers and other factors. Memory is taken only where there are others.
+    pub fn from_factors(
+        alloc: Global,
+        powers: Vec<Power>,
+        others: Others,
+    ) -> Result<Term, AllocError>
+        requires { IsTerm (term powers.items others) }
+        ensures { IfOk result (λ t. t ≡ term powers.items others) }
+    {
+        if others.is_none() {
+            return Ok(Term::from_powers(powers));
+        }
+        let mixed = Mixed {
+            symbols: powers,
+            others,
+        };
+        let mixed = Box::new(alloc, mixed).map_err(|_| AllocError)?;
+        Ok(Term {
+            factors: Factors::Mixed(mixed),
+        })
     }
 
     /// Multiplies it by a power of a symbol that is declared behind all of its own.
     pub fn push(&mut self, power: Power) -> Result<(), AllocError>
-        requires { IsTerm (of_symbols (self.old.symbols ++ power ∷ [])) }
-        ensures { OnOk result (self.new ≡ of_symbols (self.old.symbols ++ power ∷ [])) }
+        requires { IsTerm (term (self.old.symbols ++ power ∷ []) self.old.others) }
+        ensures pushed { OnOk result (self.new ≡ term (self.old.symbols ++ power ∷ []) self.old.others) }
+        ensures same { OnErr result (self.new ≡ self.old) }
     {
-        self.symbols.push(power)?;
+        match &mut self.factors {
+            Factors::Symbols(powers) => powers.push(power)?,
+            Factors::Mixed(mixed) => mixed.symbols.push(power)?,
+        }
         Ok(())
     }
 
@@ -69,21 +118,96 @@ impl Term {
         ensures powers { result.now ≡ self.now.symbols }
         ensures lawful { IsTerm self.now }
     {
-        &self.symbols
+        match &self.factors {
+            Factors::Symbols(powers) => powers,
+            Factors::Mixed(mixed) => &mixed.symbols,
+        }
     }
 
-    /// How many factors it has, a power being one.
+    /// Whether there are no other factors than powers of symbols.
+    pub fn has_only_symbols(&self) -> bool
+        ensures { result ≡ is_nothing self.now.others }
+    {
+        matches!(self.factors, Factors::Symbols(_))
+    }
+
+    /// Whether the exponent of `i_` is 1.
+    pub fn is_imaginary(&self) -> bool
+        ensures { result ≡ self.now.others.is_imaginary }
+    {
+        match &self.factors {
+            Factors::Symbols(_) => false,
+            Factors::Mixed(mixed) => mixed.others.is_imaginary,
+        }
+    }
+
+    /// The dot products whose exponent isn't 0, by their pairs of vectors.
+    pub fn dots(&self) -> &[DotPower]
+        ensures { result.now ≡ self.now.others.dots }
+    {
+        match &self.factors {
+            Factors::Symbols(_) => &[],
+            Factors::Mixed(mixed) => &mixed.others.dots,
+        }
+    }
+
+    pub fn components(&self) -> &[Component]
+        ensures { result.now ≡ self.now.others.components }
+    {
+        match &self.factors {
+            Factors::Symbols(_) => &[],
+            Factors::Mixed(mixed) => &mixed.others.components,
+        }
+    }
+
+    pub fn deltas(&self) -> &[Delta]
+        ensures { result.now ≡ self.now.others.deltas }
+    {
+        match &self.factors {
+            Factors::Symbols(_) => &[],
+            Factors::Mixed(mixed) => &mixed.others.deltas,
+        }
+    }
+
+    /// The commuting functions.
+    pub fn functions(&self) -> &[Call]
+        ensures { result.now ≡ self.now.others.functions }
+    {
+        match &self.factors {
+            Factors::Symbols(_) => &[],
+            Factors::Mixed(mixed) => &mixed.others.functions,
+        }
+    }
+
+    /// The non-commuting functions, as they are written.
+    pub fn word(&self) -> &[Call]
+        ensures { result.now ≡ self.now.others.word }
+    {
+        match &self.factors {
+            Factors::Symbols(_) => &[],
+            Factors::Mixed(mixed) => &mixed.others.word,
+        }
+    }
+
+    /// How many factors it has, those inside arguments counted: a power, a component and a delta are one each, and a
+    /// function is one, with one for each argument, and one and its size for each term of an argument.
     pub fn size(&self) -> usize
         ensures { result ≡ size self.now }
     {
-        self.symbols.len()
+        match &self.factors {
+            Factors::Symbols(powers) => powers.len(),
+            Factors::Mixed(mixed) => mixed.symbols.len() + mixed.others.size(),
+        }
     }
 
-    /// One more than the depth of the deepest argument, of which there are none so far.
+    /// 1, or one more than the depth of the deepest term in an argument.
     pub fn depth(&self) -> usize
         ensures { result ≡ depth self.now }
     {
-        1
+        match &self.factors {
+            Factors::Symbols(_) => 1,
+            Factors::Mixed(mixed) => 1 + mixed.others.depth(),
+        }
     }
 }
 
@@ -93,10 +217,33 @@ impl Clone for Term {
     ghost is_clone = { λ t u. u ≡ t };
 
     fn clone(&self) -> Result<Term, AllocError> {
-        Ok(Term {
+        let factors = match &self.factors {
+            Factors::Symbols(powers) => Factors::Symbols(powers.clone()?),
+            Factors::Mixed(mixed) => Factors::Mixed(copied(mixed)?),
+        };
+        Ok(Term { factors })
+    }
+}
+
+impl Clone for Mixed {
+    ghost use Rattle.std.specs.Prelude.{◌≡◌};
+
+    ghost is_clone = { λ m n. (n.symbols.items ≡ m.symbols.items) × (n.others ≡ m.others) };
+
+    fn clone(&self) -> Result<Mixed, AllocError> {
+        Ok(Mixed {
             symbols: self.symbols.clone()?,
+            others: self.others.clone()?,
         })
     }
+}
+
+/// A copy in memory of its own.
+fn copied(mixed: &Box<Mixed>) -> Result<Box<Mixed>, AllocError>
+    ensures symbols { IfOk result (λ copy. copy.value.symbols.items ≡ mixed.now.value.symbols.items) }
+    ensures others { IfOk result (λ copy. copy.value.others ≡ mixed.now.value.others) }
+{
+    mixed.clone()
 }
 
 impl PartialEq for Term {
@@ -121,15 +268,31 @@ impl Eq for Term {
 }
 
 impl Hash for Term {
-    ghost use Rattle.std.specs.Hash as fed;
-    ghost use Rattle.form_term.specs.Term.{normal_powers};
-    ghost use Rattle.form_term.specs.TermLaws.{fed_alike};
+    ghost use Rattle.std.specs.Prelude.{◌++◌, [], if◌then◌else◌};
+    ghost use Rattle.form_term.specs.Term.{normal_powers, is_nothing};
+    ghost use Rattle.form_term.specs.TermLaws.{terms_alike};
+    ghost use Rattle.form_term.specs.Feeding.{fed_powers, fed_others};
 
-    ghost hash_input = { λ t. fed.slice ⟦<Power as Hash>⟧.hash_input (normal_powers t) };
+    ghost hash_input = { λ t. fed_powers (normal_powers t.symbols) ++ (if is_nothing t.others then [] else fed_others t.others) };
 
-    ghost respects_eq = { fed_alike (fed.slice ⟦<Power as Hash>⟧.hash_input) };
+    ghost respects_eq = { terms_alike (λ ps o. fed_powers ps ++ (if is_nothing o then [] else fed_others o)) };
 
     fn hash<H: Hasher>(&self, state: &mut H) {
-        self.symbols.as_slice().hash(state);
+        self.powers().hash(state);
+        if let Factors::Mixed(mixed) = &self.factors {
+            feed(&mixed.others, state);
+        }
     }
+}
+
+/// Feeds the factors besides powers of symbols to a hasher.
+fn feed<H: Hasher>(others: &Others, state: &mut H)
+    ensures { state.new ≡ fold H.write state.old (fed_others others.now) }
+{
+    others.is_imaginary.hash(state);
+    others.dots.as_slice().hash(state);
+    others.components.as_slice().hash(state);
+    others.deltas.as_slice().hash(state);
+    others.functions.as_slice().hash(state);
+    others.word.as_slice().hash(state);
 }

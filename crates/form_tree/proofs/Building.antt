@@ -6,7 +6,7 @@ use Rattle.form_tree.specs.declared.tree.Link.{Link}
 use Rattle.form_tree.specs.declared.tree.Link.TheVariants as links
 use Rattle.form_tree.specs.declared.tree.Piece.{Piece}
 use Rattle.form_tree.specs.declared.tree.Piece.TheVariants as pieces
-use Rattle.form_tree.specs.Tree.{Sum, first, more, Product, one, times, Factor, number, symbol, stored, parenthesis, link_of, pieces_of_sum, pieces_of_product, pieces_of_factor}
+use Rattle.form_tree.specs.Tree.{Sum, first, more, Product, one, times, Factor, number, symbol, stored, imaginary, dot, component, delta, function, parenthesis, Arguments, empty, further, Argument, index, vector, expression, link_of, pieces_of_sum, pieces_of_product, pieces_of_factor, pieces_of_arguments, pieces_of_argument}
 
 -- what is before a product: whether there is a minus, where it is the first, or a sum and that
 data Lead : Type 0 where
@@ -17,6 +17,25 @@ data Lead : Type 0 where
 data Begun : Type 0 where
   nothing : Begun
   begun : Lead → Product → Begun
+
+-- a function that is begun: the sum that it stands in, how it stands there, what it is, and its arguments so far
+record Calling : Type 0 where
+  around : Begun
+  link : Link
+  position : ℕ
+  is_commuting : Bool
+  arguments : Arguments
+
+-- what is open around a sum: a parenthesis, in what and how it stands there, or a function one of whose arguments it is
+data Frame : Type 0 where
+  in_parenthesis : Begun → Link → Frame
+  in_argument : Calling → Frame
+
+-- where one is: in a sum, or behind an argument of a function
+data State : Type 0 where
+  in_sum : List Frame → Begun → State
+  in_function : List Frame → Calling → State
+  failed : State
 
 abbrev sum_of : Lead → Product → Sum
 sum_of (start is_minus) p = first is_minus p
@@ -31,20 +50,38 @@ added (begun l p) links.Plus f = begun (after (sum_of l p) false) (one f)
 added (begun l p) links.Minus f = begun (after (sum_of l p) true) (one f)
 added (begun l p) links.Times f = begun l (times p f)
 
-abbrev whole : Begun → Option Sum
-whole nothing = None
-whole (begun l p) = Some (sum_of l p)
+abbrev calling : Begun → Link → ℕ → Bool → Arguments → Calling
+calling around link position is_commuting args = record { around = around; link = link; position = position; is_commuting = is_commuting; arguments = args }
 
--- the tree of pieces behind what is begun: in open parentheses, each with what is around it and how it stands to that, and in the innermost
-build : List (Begun × Link) → Begun → List Piece → Option Sum
-build around inner [] = whole inner
-build around inner (pieces.Number link n power ∷ rest) = build around (added inner link (number n power)) rest
-build around inner (pieces.Symbol link s power ∷ rest) = build around (added inner link (symbol s power)) rest
-build around inner (pieces.Stored link e power ∷ rest) = build around (added inner link (stored e power)) rest
-build around inner (pieces.Open link ∷ rest) = build ((inner, link) ∷ around) nothing rest
-build [] inner (pieces.Close power ∷ rest) = None
-build (a ∷ around) nothing (pieces.Close power ∷ rest) = None
-build (a ∷ around) (begun l p) (pieces.Close power ∷ rest) = build around (added a.0 a.1 (parenthesis (sum_of l p) power)) rest
+abbrev with_argument : Calling → Argument → Calling
+with_argument c a = calling c.around c.link c.position c.is_commuting (further c.arguments a)
+
+abbrev step : State → Piece → State
+step (in_sum frames inner) (pieces.Number link n power) = in_sum frames (added inner link (number n power))
+step (in_sum frames inner) (pieces.Symbol link s power) = in_sum frames (added inner link (symbol s power))
+step (in_sum frames inner) (pieces.Stored link e power) = in_sum frames (added inner link (stored e power))
+step (in_sum frames inner) (pieces.Imaginary link power) = in_sum frames (added inner link (imaginary power))
+step (in_sum frames inner) (pieces.Dot link p q power) = in_sum frames (added inner link (dot p q power))
+step (in_sum frames inner) (pieces.Component link c power) = in_sum frames (added inner link (component c power))
+step (in_sum frames inner) (pieces.Delta link i j power) = in_sum frames (added inner link (delta i j power))
+step (in_sum frames inner) (pieces.Function link f is_commuting) = in_function frames (calling inner link f is_commuting empty)
+step (in_sum frames inner) (pieces.Open link) = in_sum (in_parenthesis inner link ∷ frames) nothing
+step (in_sum (in_parenthesis outer link ∷ frames) (begun l p)) (pieces.Close power) = in_sum frames (added outer link (parenthesis (sum_of l p) power))
+step (in_sum (in_argument c ∷ frames) (begun l p)) pieces.EndOfArgument = in_function frames (with_argument c (expression (sum_of l p)))
+step (in_function frames c) (pieces.Index i) = in_function frames (with_argument c (index i))
+step (in_function frames c) (pieces.Vector v) = in_function frames (with_argument c (vector v))
+step (in_function frames c) pieces.Argument = in_sum (in_argument c ∷ frames) nothing
+step (in_function frames c) (pieces.EndOfFunction power) = in_sum frames (added c.around c.link (function c.position c.is_commuting c.arguments power))
+step s p = failed
+
+abbrev whole : State → Option Sum
+whole (in_sum [] (begun l p)) = Some (sum_of l p)
+whole s = None
+
+-- the tree of pieces behind what is begun
+build : State → List Piece → Option Sum
+build s [] = whole s
+build s (p ∷ ps) = build (step s p) ps
 
 abbrev begun_of : Sum → Begun
 begun_of (first is_minus p) = begun (start is_minus) p
@@ -64,48 +101,76 @@ begins_more (first o p) false f = refl
 begins_more (more s o p) true f = refl
 begins_more (more s o p) false f = refl
 
-closed : (around : List (Begun × Link)) (inner : Begun) (link : Link) (s : Sum) (power : ℕ) (rest : List Piece)
-    → build ((inner, link) ∷ around) (begun_of s) (pieces.Close power ∷ rest) ≡ build around (added inner link (parenthesis s power)) rest
-unfolding build
-closed around inner link (first o p) power rest = refl
-closed around inner link (more s o p) power rest = refl
+closed : (frames : List Frame) (inner : Begun) (link : Link) (s : Sum) (power : ℕ)
+    → step (in_sum (in_parenthesis inner link ∷ frames) (begun_of s)) (pieces.Close power) ≡ in_sum frames (added inner link (parenthesis s power))
+closed frames inner link (first o p) power = refl
+closed frames inner link (more s o p) power = refl
+
+argument_closed : (frames : List Frame) (c : Calling) (s : Sum)
+    → step (in_sum (in_argument c ∷ frames) (begun_of s)) pieces.EndOfArgument ≡ in_function frames (with_argument c (expression s))
+argument_closed frames c (first o p) = refl
+argument_closed frames c (more s o p) = refl
 
 mutual
   unfolding build
 
-  of_sum : (s : Sum) (around : List (Begun × Link)) (rest : List Piece) → build around nothing (pieces_of_sum s ++ rest) ≡ build around (begun_of s) rest
-  of_sum (first is_minus p) around rest = of_product p around nothing (link_of is_minus) (start is_minus) rest (begins_first is_minus)
-  of_sum (more s is_minus p) around rest =
-      ap (build around nothing) (append_assoc (pieces_of_sum s) (pieces_of_product (link_of is_minus) p) rest)
-      ∙ of_sum s around (pieces_of_product (link_of is_minus) p ++ rest)
-      ∙ of_product p around (begun_of s) (link_of is_minus) (after s is_minus) rest (begins_more s is_minus)
+  of_sum : (s : Sum) (frames : List Frame) (rest : List Piece) → build (in_sum frames nothing) (pieces_of_sum s ++ rest) ≡ build (in_sum frames (begun_of s)) rest
+  of_sum (first is_minus p) frames rest = of_product p frames nothing (link_of is_minus) (start is_minus) rest (begins_first is_minus)
+  of_sum (more s is_minus p) frames rest =
+      ap (build (in_sum frames nothing)) (append_assoc (pieces_of_sum s) (pieces_of_product (link_of is_minus) p) rest)
+      ∙ of_sum s frames (pieces_of_product (link_of is_minus) p ++ rest)
+      ∙ of_product p frames (begun_of s) (link_of is_minus) (after s is_minus) rest (begins_more s is_minus)
 
-  of_product : (p : Product) (around : List (Begun × Link)) (inner : Begun) (link : Link) (l : Lead) (rest : List Piece) → Begins inner link l
-      → build around inner (pieces_of_product link p ++ rest) ≡ build around (begun l p) rest
-  of_product (one f) around inner link l rest b = of_factor f around inner link rest ∙ ap (λ (i : Begun). build around i rest) (b f)
-  of_product (times p f) around inner link l rest b =
-      ap (build around inner) (append_assoc (pieces_of_product link p) (pieces_of_factor links.Times f) rest)
-      ∙ of_product p around inner link l (pieces_of_factor links.Times f ++ rest) b
-      ∙ of_factor f around (begun l p) links.Times rest
+  of_product : (p : Product) (frames : List Frame) (inner : Begun) (link : Link) (l : Lead) (rest : List Piece) → Begins inner link l
+      → build (in_sum frames inner) (pieces_of_product link p ++ rest) ≡ build (in_sum frames (begun l p)) rest
+  of_product (one f) frames inner link l rest b = of_factor f frames inner link rest ∙ ap (λ (i : Begun). build (in_sum frames i) rest) (b f)
+  of_product (times p f) frames inner link l rest b =
+      ap (build (in_sum frames inner)) (append_assoc (pieces_of_product link p) (pieces_of_factor links.Times f) rest)
+      ∙ of_product p frames inner link l (pieces_of_factor links.Times f ++ rest) b
+      ∙ of_factor f frames (begun l p) links.Times rest
 
-  of_factor : (f : Factor) (around : List (Begun × Link)) (inner : Begun) (link : Link) (rest : List Piece)
-      → build around inner (pieces_of_factor link f ++ rest) ≡ build around (added inner link f) rest
-  of_factor (number n power) around inner link rest = refl
-  of_factor (symbol s power) around inner link rest = refl
-  of_factor (stored e power) around inner link rest = refl
-  of_factor (parenthesis s power) around inner link rest =
-      ap (build ((inner, link) ∷ around) nothing) (append_assoc (pieces_of_sum s) (pieces.Close power ∷ []) rest)
-      ∙ of_sum s ((inner, link) ∷ around) (pieces.Close power ∷ rest)
-      ∙ closed around inner link s power rest
+  of_factor : (f : Factor) (frames : List Frame) (inner : Begun) (link : Link) (rest : List Piece)
+      → build (in_sum frames inner) (pieces_of_factor link f ++ rest) ≡ build (in_sum frames (added inner link f)) rest
+  of_factor (number n power) frames inner link rest = refl
+  of_factor (symbol s power) frames inner link rest = refl
+  of_factor (stored e power) frames inner link rest = refl
+  of_factor (imaginary power) frames inner link rest = refl
+  of_factor (dot p q power) frames inner link rest = refl
+  of_factor (component c power) frames inner link rest = refl
+  of_factor (delta i j power) frames inner link rest = refl
+  of_factor (function f is_commuting args power) frames inner link rest =
+      ap (build (in_function frames (calling inner link f is_commuting empty))) (append_assoc (pieces_of_arguments args) (pieces.EndOfFunction power ∷ []) rest)
+      ∙ of_arguments args frames inner link f is_commuting (pieces.EndOfFunction power ∷ rest)
+  of_factor (parenthesis s power) frames inner link rest =
+      ap (build (in_sum (in_parenthesis inner link ∷ frames) nothing)) (append_assoc (pieces_of_sum s) (pieces.Close power ∷ []) rest)
+      ∙ of_sum s (in_parenthesis inner link ∷ frames) (pieces.Close power ∷ rest)
+      ∙ ap (λ (t : State). build t rest) (closed frames inner link s power)
 
-of_begun : (s : Sum) → build [] (begun_of s) [] ≡ Some s
+  of_arguments : (args : Arguments) (frames : List Frame) (inner : Begun) (link : Link) (f : ℕ) (is_commuting : Bool) (rest : List Piece)
+      → build (in_function frames (calling inner link f is_commuting empty)) (pieces_of_arguments args ++ rest) ≡ build (in_function frames (calling inner link f is_commuting args)) rest
+  of_arguments empty frames inner link f is_commuting rest = refl
+  of_arguments (further args a) frames inner link f is_commuting rest =
+      ap (build (in_function frames (calling inner link f is_commuting empty))) (append_assoc (pieces_of_arguments args) (pieces_of_argument a) rest)
+      ∙ of_arguments args frames inner link f is_commuting (pieces_of_argument a ++ rest)
+      ∙ of_argument a frames (calling inner link f is_commuting args) rest
+
+  of_argument : (a : Argument) (frames : List Frame) (c : Calling) (rest : List Piece)
+      → build (in_function frames c) (pieces_of_argument a ++ rest) ≡ build (in_function frames (with_argument c a)) rest
+  of_argument (index i) frames c rest = refl
+  of_argument (vector v) frames c rest = refl
+  of_argument (expression s) frames c rest =
+      ap (build (in_sum (in_argument c ∷ frames) nothing)) (append_assoc (pieces_of_sum s) (pieces.EndOfArgument ∷ []) rest)
+      ∙ of_sum s (in_argument c ∷ frames) (pieces.EndOfArgument ∷ rest)
+      ∙ ap (λ (t : State). build t rest) (argument_closed frames c s)
+
+of_begun : (s : Sum) → build (in_sum [] (begun_of s)) [] ≡ Some s
 unfolding build
 of_begun (first o p) = refl
 of_begun (more s o p) = refl
 
-built : (s : Sum) → build [] nothing (pieces_of_sum s) ≡ Some s
-built s = ap (build [] nothing) (sym (append-nil (pieces_of_sum s))) ∙ of_sum s [] [] ∙ of_begun s
+built : (s : Sum) → build (in_sum [] nothing) (pieces_of_sum s) ≡ Some s
+built s = ap (build (in_sum [] nothing)) (sym (append-nil (pieces_of_sum s))) ∙ of_sum s [] [] ∙ of_begun s
 
 -- Pieces are those of one tree at most.
 pub one_tree : (s t : Sum) → pieces_of_sum s ≡ pieces_of_sum t → s ≡ t
-one_tree s t e = same_Some s t (sym (built s) ∙ ap (build [] nothing) e ∙ built t)
+one_tree s t e = same_Some s t (sym (built s) ∙ ap (build (in_sum [] nothing)) e ∙ built t)

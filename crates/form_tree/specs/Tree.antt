@@ -1,5 +1,7 @@
 -- Right sides as trees, and the pieces that such a tree is kept as.
 use Rattle.std.specs.Prelude.{ℕ, ℤ, Bool, true, false, List, [], ◌∷◌, ◌++◌}
+use Rattle.form_term.specs.declared.index.Index.{Index}
+use Rattle.form_term.specs.declared.index.Component.{Component}
 use Rattle.form_tree.specs.declared.tree.Link.{Link}
 use Rattle.form_tree.specs.declared.tree.Link.TheVariants.{Plus, Minus, Times}
 use Rattle.form_tree.specs.declared.tree.Piece.{Piece}
@@ -16,12 +18,29 @@ mutual
     one : Factor → Product
     times : Product → Factor → Product
 
-  -- A whole number, a symbol, a stored expression or a sum, to a power. What is divided by has a negative power.
+  -- A whole number, a symbol, a stored expression, `i_`, a dot product of two vectors, a component, a delta of two
+  -- indices, a function with its arguments, or a sum, to a power. What is divided by has a negative power.
   pub data Factor : Type 0 where
     number : (value : ℕ) (power : ℤ) → Factor
     symbol : (position : ℕ) (power : ℤ) → Factor
     stored : (position : ℕ) (power : ℕ) → Factor
+    imaginary : (power : ℕ) → Factor
+    dot : (left right : ℕ) (power : ℤ) → Factor
+    component : Component → (power : ℕ) → Factor
+    delta : (i j : Index) (power : ℕ) → Factor
+    function : (position : ℕ) (is_commuting : Bool) → Arguments → (power : ℕ) → Factor
     parenthesis : Sum → (power : ℕ) → Factor
+
+  -- the arguments of a function in a row
+  pub data Arguments : Type 0 where
+    empty : Arguments
+    further : Arguments → Argument → Arguments
+
+  -- an index alone, a vector alone, or an expression
+  pub data Argument : Type 0 where
+    index : Index → Argument
+    vector : (position : ℕ) → Argument
+    expression : Sum → Argument
 
 -- how the first factor of a product stands to what is before it
 abbrev pub link_of : Bool → Link
@@ -42,4 +61,18 @@ abbrev mutual
   pieces_of_factor link (number value power) = pieces.Number link value power ∷ []
   pieces_of_factor link (symbol position power) = pieces.Symbol link position power ∷ []
   pieces_of_factor link (stored position power) = pieces.Stored link position power ∷ []
+  pieces_of_factor link (imaginary power) = pieces.Imaginary link power ∷ []
+  pieces_of_factor link (dot left right power) = pieces.Dot link left right power ∷ []
+  pieces_of_factor link (component c power) = pieces.Component link c power ∷ []
+  pieces_of_factor link (delta i j power) = pieces.Delta link i j power ∷ []
+  pieces_of_factor link (function position is_commuting args power) = pieces.Function link position is_commuting ∷ pieces_of_arguments args ++ pieces.EndOfFunction power ∷ []
   pieces_of_factor link (parenthesis s power) = pieces.Open link ∷ pieces_of_sum s ++ pieces.Close power ∷ []
+
+  pub pieces_of_arguments : Arguments → List Piece
+  pieces_of_arguments empty = []
+  pieces_of_arguments (further args a) = pieces_of_arguments args ++ pieces_of_argument a
+
+  pub pieces_of_argument : Argument → List Piece
+  pieces_of_argument (index i) = pieces.Index i ∷ []
+  pieces_of_argument (vector position) = pieces.Vector position ∷ []
+  pieces_of_argument (expression s) = pieces.Argument ∷ pieces_of_sum s ++ pieces.EndOfArgument ∷ []

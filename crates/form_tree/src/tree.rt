@@ -1,6 +1,7 @@
 ghost use Rattle.std.specs.Prelude.{◌≡◌};
 
 use form_base::Id;
+use form_term::{Component, Index};
 use std::marker::Model;
 
 /// How a factor stands to what is before it.
@@ -35,6 +36,49 @@ pub enum Piece {
         expression: Id,
         power: u32,
     },
+    /// `i_` to a power.
+    Imaginary {
+        link: Link,
+        power: u32,
+    },
+    /// The dot product of two vectors, in either order, to a power.
+    Dot {
+        link: Link,
+        left: Id,
+        right: Id,
+        power: i32,
+    },
+    /// A component of a vector to a power.
+    Component {
+        link: Link,
+        component: Component,
+        power: u32,
+    },
+    /// A delta of two indices, in either order, to a power.
+    Delta {
+        link: Link,
+        first: Index,
+        second: Index,
+        power: u32,
+    },
+    /// A function begins; its arguments follow.
+    Function {
+        link: Link,
+        function: Id,
+        is_commuting: bool,
+    },
+    /// A function ends, to a power.
+    EndOfFunction {
+        power: u32,
+    },
+    /// An argument that is an index alone.
+    Index(Index),
+    /// An argument that is a vector alone.
+    Vector(Id),
+    /// An argument that is an expression begins; a sum follows.
+    Argument,
+    /// An argument that is an expression ends.
+    EndOfArgument,
     /// A sum in parentheses begins.
     Open {
         link: Link,

@@ -1,14 +1,17 @@
-use Rattle.std.proofs.Common.{◌≡◌, ◌+◌, ◌-◌, [], ◌∷◌, ◌++◌, length, refl, sym, ap, subst, ◌∙◌, arith, append-nil}
+use Rattle.std.proofs.Common.{◌≡◌, ◌+◌, ◌-◌, [], ◌∷◌, ◌++◌, length, drop, eqb-true, refl, sym, ap, subst, ◌∙◌, arith, append-nil, rules}
 use Rattle.std.specs.Prelude.{Some, None, Ok, Err, option_to_list}
-use Rattle.std.proofs.lemmas.Bool.{eqb-true}
 use Rattle.std.proofs.lemmas.List.{nil_from_length}
 use Rattle.std.proofs.lemmas.Result.{err_from_is_err_and}
 use Rattle.form_expand.specs.Factors.{factor_left}
 use Rattle.form_expand.specs.Left.{Level, times_by}
-use Rattle.form_expand.specs.Listing.{nothing, before, limited, followed, signed}
-use Rattle.form_expand.specs.Next.{Takes}
+use Rattle.form_expand.specs.Listing.{nothing, refusal, before, limited, followed, signed}
+use Rattle.form_expand.specs.Next.{Takes, Goes, progress_of}
 use Rattle.form_expand.specs.Products.{level_of, product_left}
-use Rattle.form_expand.specs.Reading.{list_of_pieces}
+use Rattle.form_expand.specs.Calls.{called}
+use Rattle.form_expand.specs.Kept.{listing}
+use Rattle.form_expand.specs.Reading.{in_sum, in_function, fresh, calling, list_of_pieces}
+use Rattle.form_expand.specs.Readers.{list_of_calling}
+use Rattle.form_expand.specs.Singles.{argument_of}
 use Rattle.form_expand.specs.Streams.{stream_left, stream_before}
 use Rattle.form_expand.specs.Inner.{Inner}
 use Rattle.form_expand.specs.Parentheses.{whole_of}
@@ -16,10 +19,13 @@ use Rattle.form_expand.specs.Walks.{all_of}
 use Rattle.form_expand.proofs.Keeping.{left_made, all_kept, one_kept, kept_past}
 use Rattle.form_expand.proofs.Products.{levels_close, levels_give, levels_open, levels_refuse, levels_done, levels_same}
 use Rattle.form_expand.proofs.Streamed.{gives_from, stream_ungiven, stream_on, stream_done}
-use Rattle.form_expand.proofs.Taking.{takes_one_to, takes_over, takes_none, takes_ungiven, gives_times_err, gives_unmade, times_by_made, times_by_end}
+use Rattle.form_expand.proofs.Taking.{takes_one_to, takes_over, takes_none, takes_ungiven, goes_times_err, goes_unmade, goes_made, times_by_end}
+use Rattle.form_expand.proofs.Called.{some_from, list_called, index_read, vector_read, opens, none_opened, none_argued, argument_passed, argument_begun, expression_ended, expression_read, expression_refused, none_taken, one_taken, collected_all, refused_argument}
+use Rattle.form_expand.proofs.Behind.{read_none, limited_pieces}
+use Rattle.form_expand.proofs.Parenthesized.{read_unended, read_ended, drop_next}
 use Rattle.form_expand.proofs.Vecs.{emptied}
 use Rattle.form_expand.proofs.+taking.Goals as goal
-use Rattle.form_expand.proofs.+taking.Goals.{parenthesis::Parenthesis::next_times-then-keeps, parenthesis::Parenthesis::next_times-else-keeps, parenthesis::Parenthesis::next_times-then-keeps-2+in_ok-push, parenthesis::Parenthesis::next_times-else-keeps-2}
+use Rattle.form_expand.proofs.+taking.Goals.{parenthesis::Parenthesis::step_times-then-keeps, parenthesis::Parenthesis::step_times-else-keeps, parenthesis::Parenthesis::step_times-then-keeps-2+in_ok-push, parenthesis::Parenthesis::step_times-else-keeps-2}
 
 pub product::Level::take-returns-in_err-term : goal.product::Level::take-returns-in_err-term
 product::Level::take-returns-in_err-term t c =
@@ -150,62 +156,194 @@ stream::Stream::next-returns-in-Some-2 t c =
     ∙ sym (stream_on s.limit s.given s.is_minus rest (product_left s.limit s.product) gave.0)
     ∙ c.loop.invariant)) c.give-in-Some-2.ensures
 
-pub parenthesis::Parenthesis::next_times-returns-in_err-term-clause-next : goal.parenthesis::Parenthesis::next_times-returns-in_err-term-clause-next
-parenthesis::Parenthesis::next_times-returns-in_err-term-clause-next t c =
+pub parenthesis::Parenthesis::step_times-returns-in_err-term-clause-next : goal.parenthesis::Parenthesis::step_times-returns-in_err-term-clause-next
+parenthesis::Parenthesis::step_times-returns-in_err-term-clause-next t c =
     let inside = c.self.inside in
     let made = ap (λ (i : Inner). i.left) (sym c.self.view_is) ∙ left_made inside.mode inside.place inside.kept.items (stream_left inside.stream) (sym c.is_kept.ensures ∙ c.if-is_kept.false) in
     let e = err_from_is_err_and c.from_residual.result c.from_residual.ensures.1 in
     let left = c.args.left.now in
     let new = stream_left c.next.new.self in
     let gave = gives_from (Err (c.in_err-term.field-0.0)) c.args.self.now.left (stream_left inside.stream) new made c.in_err-term.ensures in
-    rw (e.1, e.2) (gives_times_err left (c.in_err-term.field-0.0) c.args.self.now.left new (times_by left new) gave)
+    rw (e.1, e.2) (goes_times_err left (c.in_err-term.field-0.0) c.args.self.now.left new (times_by left new) gave)
 
-pub parenthesis::Parenthesis::next_times-invariant_of-self-then-keeps : goal.parenthesis::Parenthesis::next_times-invariant_of-self-then-keeps
-parenthesis::Parenthesis::next_times-invariant_of-self-then-keeps t c =
+pub parenthesis::Parenthesis::step_times-invariant_of-self-then-keeps : goal.parenthesis::Parenthesis::step_times-invariant_of-self-then-keeps
+parenthesis::Parenthesis::step_times-invariant_of-self-then-keeps t c =
     let inside = c.self.inside in
     let gave = rw c.in_default-2.is at c.in_ok-term.ensures in
     all_kept inside.mode inside.kept.items (stream_left inside.stream) (whole_of inside) (c.keeps-keeps.ensures c.if-keeps.true) c.self.invariant gave.0
 
-pub parenthesis::Parenthesis::next_times-returns-in_default-2-clause-next : goal.parenthesis::Parenthesis::next_times-returns-in_default-2-clause-next
-parenthesis::Parenthesis::next_times-returns-in_default-2-clause-next t c =
+pub parenthesis::Parenthesis::step_times-returns-in_default-2-clause-next : goal.parenthesis::Parenthesis::step_times-returns-in_default-2-clause-next
+parenthesis::Parenthesis::step_times-returns-in_default-2-clause-next t c =
     let inside = c.self.inside in
     let made = ap (λ (i : Inner). i.left) (sym c.self.view_is) ∙ left_made inside.mode inside.place inside.kept.items (stream_left inside.stream) (sym c.is_kept.ensures ∙ c.if-is_kept.false) in
     let gave = rw c.in_default-2.is at c.in_ok-term.ensures in
     let left = c.args.left.now in
     let new : c.if-keeps.self.left ≡ nothing = elim c.if-keeps.branch [
-      | parenthesis::Parenthesis::next_times-then-keeps w ↦ ap (λ (i : Inner). i.left) w.self-is ∙ kept_past inside.kept.items w.len-self-inside.result (omega (arith, w.len-self-inside.ensures, inside.kept.ok.0))
-      | parenthesis::Parenthesis::next_times-else-keeps w ↦ ap (λ (i : Inner). i.left) w.self-is ∙ gave.1
+      | parenthesis::Parenthesis::step_times-then-keeps w ↦ ap (λ (i : Inner). i.left) w.self-is ∙ kept_past inside.kept.items w.len-self-inside.result (omega (arith, w.len-self-inside.ensures, inside.kept.ok.0))
+      | parenthesis::Parenthesis::step_times-else-keeps w ↦ ap (λ (i : Inner). i.left) w.self-is ∙ gave.1
     ] in
     (ap (times_by left) (made ∙ gave.0) ∙ times_by_end left None, ap (times_by left) new ∙ times_by_end left None)
 
-pub parenthesis::Parenthesis::next_times-returns-in_err-made-clause-next : goal.parenthesis::Parenthesis::next_times-returns-in_err-made-clause-next
-parenthesis::Parenthesis::next_times-returns-in_err-made-clause-next t c =
+pub parenthesis::Parenthesis::step_times-returns-in_err-made-clause-next : goal.parenthesis::Parenthesis::step_times-returns-in_err-made-clause-next
+parenthesis::Parenthesis::step_times-returns-in_err-made-clause-next t c =
     let inside = c.self.inside in
     let made = ap (λ (i : Inner). i.left) (sym c.self.view_is) ∙ left_made inside.mode inside.place inside.kept.items (stream_left inside.stream) (sym c.is_kept.ensures ∙ c.if-is_kept.false) in
     let e = err_from_is_err_and c.from_residual-in_err-made.result c.from_residual-in_err-made.ensures.1 in
     let left = c.args.left.now in
     let new = stream_left c.next.new.self in
     let gave = rw c.in-Some-2.is at c.in_ok-term.ensures in
-    rw (e.1, e.2) (gives_unmade left c.in-Some-2.term c.args.self.now.left new (c.in_err-made.field-0.0) (times_by left new) (made ∙ gave) c.in_err-made.ensures)
+    rw (e.1, e.2) (goes_unmade left c.in-Some-2.term c.args.self.now.left new (c.in_err-made.field-0.0) (times_by left new) (made ∙ gave) c.in_err-made.ensures)
 
-pub parenthesis::Parenthesis::next_times-invariant_of-self-then-keeps-2 : goal.parenthesis::Parenthesis::next_times-invariant_of-self-then-keeps-2
-parenthesis::Parenthesis::next_times-invariant_of-self-then-keeps-2 t c =
+pub parenthesis::Parenthesis::step_times-invariant_of-self-then-keeps-2 : goal.parenthesis::Parenthesis::step_times-invariant_of-self-then-keeps-2
+parenthesis::Parenthesis::step_times-invariant_of-self-then-keeps-2 t c =
     let inside = c.self.inside in
     let gave = rw c.in-Some-2.is at c.in_ok-term.ensures in
     let new = stream_left c.next.new.self in
     one_kept inside.mode inside.kept.items c.in-Some-2.term (stream_left inside.stream) new (whole_of inside) (c.keeps-keeps.ensures c.if-keeps-2.true) c.self.invariant gave
     ∙ ap (λ ms. followed (all_of ms) new) (sym c.in_ok-push.ensures.items)
 
-pub parenthesis::Parenthesis::next_times-returns-clause-next : goal.parenthesis::Parenthesis::next_times-returns-clause-next
-parenthesis::Parenthesis::next_times-returns-clause-next t c =
+pub parenthesis::Parenthesis::step_times-returns-clause-next : goal.parenthesis::Parenthesis::step_times-returns-clause-next
+parenthesis::Parenthesis::step_times-returns-clause-next t c =
     let inside = c.self.inside in
     let made = ap (λ (i : Inner). i.left) (sym c.self.view_is) ∙ left_made inside.mode inside.place inside.kept.items (stream_left inside.stream) (sym c.is_kept.ensures ∙ c.if-is_kept.false) in
     let left = c.args.left.now in
     let new = stream_left c.next.new.self in
     let gave = rw c.in-Some-2.is at c.in_ok-term.ensures in
-    let here = times_by_made left c.in-Some-2.term c.in_ok-made.made c.args.self.now.left new (made ∙ gave) c.in_ok-made.ensures in
+    let here = goes_made left c.in-Some-2.term c.in_ok-made.made c.args.self.now.left new (made ∙ gave) c.in_ok-made.ensures in
     let then : c.if-keeps-2.self.left ≡ new = elim c.if-keeps-2.branch [
-      | parenthesis::Parenthesis::next_times-then-keeps-2+in_ok-push w ↦ ap (λ (i : Inner). i.left) w.self-is
-      | parenthesis::Parenthesis::next_times-else-keeps-2 w ↦ ap (λ (i : Inner). i.left) w.self-is
+      | parenthesis::Parenthesis::step_times-then-keeps-2+in_ok-push w ↦ ap (λ (i : Inner). i.left) w.self-is
+      | parenthesis::Parenthesis::step_times-else-keeps-2 w ↦ ap (λ (i : Inner). i.left) w.self-is
     ] in
-    here ∙ ap (λ l. before c.in_ok-made.made (times_by left l)) (sym then)
+    rw c.of.ensures (subst (λ l. Goes (Ok (progress_of c.in_ok-made.made)) (times_by left c.args.self.now.left) (times_by left l)) (sym then) here)
+
+pub function::written_out-loop-rest-init : goal.function::written_out-loop-rest-init
+function::written_out-loop-rest-init t c = record { now = []; written = c.new-arguments.ensures; read = refl }
+
+pub function::written_out-loop-rest-smaller : goal.function::written_out-loop-rest-smaller
+function::written_out-loop-rest-smaller t c =
+    let rest = c.loop-rest.rest.now in
+    let shorter = rw c.in-Further.is at c.in_ok-read.ensures.shorter in
+    shorter (some_from c.is_empty.result rest c.is_empty.ensures c.loop-rest-test.true)
+
+pub function::written_out-loop-rest-preserved : goal.function::written_out-loop-rest-preserved
+function::written_out-loop-rest-preserved t c =
+    let inv = c.loop-rest.invariant in
+    let here = rw c.in-Further.is at (c.in_ok-read.ensures.read c.args.function c.args.is_commuting inv.now inv.written) in
+    record { now = here.now; written = here.written; read = inv.read ∙ here.read }
+
+pub function::written_out-returns-in-Refused : goal.function::written_out-returns-in-Refused
+function::written_out-returns-in-Refused t c =
+    let inv = c.loop-rest.invariant in
+    let here = rw c.in-Refused.is at (c.in_ok-read.ensures.read c.args.function c.args.is_commuting inv.now inv.written) in
+    c.refused.ensures ∙ ap refusal c.into_cause.ensures ∙ sym here ∙ sym inv.read
+
+pub function::written_out-returns : goal.function::written_out-returns
+function::written_out-returns t c =
+    let inv = c.loop-rest.invariant in
+    let none = nil_from_length c.loop-rest.rest.now (eqb-true (length c.loop-rest.rest.now) 0 (sym c.is_empty.ensures ∙ c.loop-rest-test.false)) in
+    list_called c.args.stored.now c.args.limit c.args.function c.args.is_commuting c.loop-rest.arguments c.in_ok-into_call.field-0 c.loop-rest.rest.now listing c.call_list.result
+    (list_of_calling c.args.stored.now (calling c.args.limit c.args.function c.args.is_commuting) c.args.pieces.now) inv c.in_ok-into_call.ensures none c.call_list.ensures
+
+pub function::read_argument-returns-in_default-clause-read : goal.function::read_argument-returns-in_default-clause-read
+function::read_argument-returns-in_default-clause-read t c = λ f k args e. record { now = args; written = e; read = refl }
+
+pub function::read_argument-returns-in_ok-with_index-in-Index-clause-read : goal.function::read_argument-returns-in_ok-with_index-in-Index-clause-read
+function::read_argument-returns-in_ok-with_index-in-Index-clause-read t c = λ f k args e.
+    index_read c.args.limit c.args.stored.now f k c.args.arguments c.in_ok-with_index-in-Index.field-0 args e c.in-Index.index c.args.pieces.now c.in-Some.more.now (c.in-Some.ensures.cases.0 ∙ ap (λ p. p ∷ c.in-Some.more.now) c.in-Index.is) c.in_ok-with_index-in-Index.ensures
+
+pub function::read_argument-returns-in_ok-with_vector-in-Vector-clause-read : goal.function::read_argument-returns-in_ok-with_vector-in-Vector-clause-read
+function::read_argument-returns-in_ok-with_vector-in-Vector-clause-read t c = λ f k args e.
+    vector_read c.args.limit c.args.stored.now f k c.args.arguments c.in_ok-with_vector-in-Vector.field-0 args e c.in-Vector.vector c.args.pieces.now c.in-Some.more.now (c.in-Some.ensures.cases.0 ∙ ap (λ p. p ∷ c.in-Some.more.now) c.in-Vector.is) c.in_ok-with_vector-in-Vector.ensures
+
+pub function::read_expression-returns-in_default-clause-read : goal.function::read_expression-returns-in_default-clause-read
+function::read_expression-returns-in_default-clause-read t c = λ f k args e.
+    let all = c.args.stored.now in
+    let max = c.args.limit in
+    record {
+      now = args;
+      written = e;
+      read = read_unended all (in_function (called max f k args)) 0 (in_sum (fresh max)) [] c.args.pieces.now (sym c.closing.ensures ∙ c.in_default.is)
+          ∙ sym (read_none all (record { top = in_function (called max f k args); outer = [] }));
+    }
+
+pub function::collected-loop-init : goal.function::collected-loop-init
+function::collected-loop-init t c = none_taken c.new-collector.result (stream_left c.args.list.now) c.new-collector.ensures
+
+pub function::collected-loop-preserved : goal.function::collected-loop-preserved
+function::collected-loop-preserved t c =
+    let inv = c.loop.invariant in
+    one_taken c.loop.collector c.add.new.self (stream_left c.args.list.now) (stream_left c.loop.list) (stream_left c.next.new.self) c.in-Ok-Some.term inv (c.in_ok-add-in-Ok-Some.ensures.ok inv.done inv.stands) (rw c.in-Ok-Some.field-0-is at c.in-Ok-Some.ensures)
+
+pub function::read_argument-returns-in-Argument-clause-read : goal.function::read_argument-returns-in-Argument-clause-read
+function::read_argument-returns-in-Argument-clause-read t c =
+    argument_begun c.args.limit c.args.stored.now c.in-Some.piece.now c.args.pieces.now c.in-Some.more.now c.args.arguments c.read_expression.result c.in-Some.ensures.cases.0 (ap opens c.in-Argument.is) c.read_expression.ensures.read
+
+pub function::read_argument-returns-in-Open-clause-read : goal.function::read_argument-returns-in-Open-clause-read
+function::read_argument-returns-in-Open-clause-read t c =
+    argument_begun c.args.limit c.args.stored.now c.in-Some.piece.now c.args.pieces.now c.in-Some.more.now c.args.arguments c.read_expression-in-Open.result c.in-Some.ensures.cases.0 (ap opens c.in-Open.is) c.read_expression-in-Open.ensures.read
+
+pub function::read_argument-returns-in-Function-clause-read : goal.function::read_argument-returns-in-Function-clause-read
+function::read_argument-returns-in-Function-clause-read t c =
+    argument_begun c.args.limit c.args.stored.now c.in-Some.piece.now c.args.pieces.now c.in-Some.more.now c.args.arguments c.read_expression-in-Function.result c.in-Some.ensures.cases.0 (ap opens c.in-Function.is) c.read_expression-in-Function.ensures.read
+
+pub function::read_expression-returns-in-Ok-clause-read : goal.function::read_expression-returns-in-Ok-clause-read
+function::read_expression-returns-in-Ok-clause-read t c = λ f k args e.
+    let same : c.deref.result.now ≡ c.in-Ok.terms.items = search rules in
+    let max = c.args.limit in
+    let all = c.args.stored.now in
+    let within = c.split_at.result.0.now in
+    let whole : stream_left c.new-list.result ≡ list_of_pieces max all within = c.new-list.ensures.pieces ∙ limited_pieces max all within in
+    let collected = rw c.in-Ok.is at c.in_ok-terms.ensures in
+    expression_read max all f k c.args.arguments c.in_ok-with_expression-in-Ok.field-0 args e _ (list_of_pieces max all within) c.in-Ok.terms.items c.split_at-2.result.1.now
+    (expression_ended max all f k args c.args.pieces.now within c.split_at-2.result.1.now c.in-Some.len _ (sym c.closing.ensures ∙ c.in-Some.is) c.split_at.ensures.front (c.split_at-2.ensures.back ∙ ap (drop 1) c.split_at.ensures.back ∙ drop_next c.in-Some.len c.args.pieces.now))
+    (ap argument_of (sym whole) ∙ collected.argument) (rw same at c.in_ok-with_expression-in-Ok.ensures)
+
+pub function::read_expression-returns-clause-read : goal.function::read_expression-returns-clause-read
+function::read_expression-returns-clause-read t c = λ f k args e.
+    let max = c.args.limit in
+    let all = c.args.stored.now in
+    let within = c.split_at.result.0.now in
+    let whole : stream_left c.new-list.result ≡ list_of_pieces max all within = c.new-list.ensures.pieces ∙ limited_pieces max all within in
+    let collected = rw c.in-Err.is at c.in_ok-terms.ensures in
+    expression_refused max all f k c.args.arguments c.args.arguments args e _ (list_of_pieces max all within) c.in-Err.refusal.cause c.split_at-2.result.1.now
+    (expression_ended max all f k args c.args.pieces.now within c.split_at-2.result.1.now c.in-Some.len _ (sym c.closing.ensures ∙ c.in-Some.is) c.split_at.ensures.front (c.split_at-2.ensures.back ∙ ap (drop 1) c.split_at.ensures.back ∙ drop_next c.in-Some.len c.args.pieces.now))
+    (ap argument_of (sym whole) ∙ collected)
+
+pub function::collected-returns-in-Ok-None : goal.function::collected-returns-in-Ok-None
+function::collected-returns-in-Ok-None t c =
+    let gave = rw c.in-Ok-None.field-0-is at c.in-Ok-None.ensures in
+    collected_all c.loop.collector (stream_left c.args.list.now) (stream_left c.loop.list) c.loop.invariant c.terms_of.result gave.0 c.terms_of.ensures
+
+pub function::collected-returns-in-Err-Refused : goal.function::collected-returns-in-Err-Refused
+function::collected-returns-in-Err-Refused t c =
+    let inv = c.loop.invariant in
+    rw c.in-Err-Refused.field-0-is (refused_argument inv.done (stream_left c.args.list.now) (stream_left c.loop.list) c.in-Err-Refused.cause inv.taken (rw c.in-Err-Refused.field-0-is at c.in-Err-Refused.ensures))
+
+pub function::read_argument-returns-in_default-piece : goal.function::read_argument-returns-in_default-piece
+function::read_argument-returns-in_default-piece t c =
+    let all = c.args.stored.now in
+    let max = c.args.limit in
+    let piece = c.in-Some.piece.now in
+    let more = c.in-Some.more.now in
+    let shut = none_opened piece c.in_default-piece.not-Function c.in_default-piece.not-Argument c.in_default-piece.not-Open in
+    let other = none_argued piece c.in_default-piece.not-Index c.in_default-piece.not-Vector in
+    record {
+      read = λ f k args e. record {
+        now = args;
+        written = e;
+        read = ap (list_of_calling all (called max f k args)) c.in-Some.ensures.cases.0 ∙ argument_passed all (called max f k args) piece more shut other;
+      };
+      shorter = λ some. omega (arith, c.in-Some.ensures.cases.1);
+    }
+
+pub function::read_expression-split_at-requires : goal.function::read_expression-split_at-requires
+function::read_expression-split_at-requires t c =
+    let max = c.args.limit in
+    let h = read_ended c.args.stored.now (in_sum (fresh max)) 0 (in_sum (fresh max)) [] c.args.pieces.now c.in-Some.len _ (sym c.closing.ensures ∙ c.in-Some.is) in
+    omega (arith, h.within)
+
+pub function::read_expression-split_at-requires-2 : goal.function::read_expression-split_at-requires-2
+function::read_expression-split_at-requires-2 t c =
+    let max = c.args.limit in
+    let h = read_ended c.args.stored.now (in_sum (fresh max)) 0 (in_sum (fresh max)) [] c.args.pieces.now c.in-Some.len _ (sym c.closing.ensures ∙ c.in-Some.is) in
+    omega (arith, h.within, c.split_at.ensures.back_len)

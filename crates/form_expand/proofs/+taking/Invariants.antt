@@ -1,30 +1,71 @@
-use Rattle.std.proofs.Common.{◌≡◌, ◌+◌, ◌*◌}
+use Rattle.std.proofs.Common.{◌≡◌, ◌+◌, ◌*◌, length}
+use Rattle.form_expand.specs.Calls.{IsFurther}
+use Rattle.form_expand.specs.Left.{times_by}
 use Rattle.form_expand.specs.Products.{product_left}
+use Rattle.form_expand.specs.Reading.{calling}
+use Rattle.form_expand.specs.Readers.{list_of_calling}
 use Rattle.form_expand.specs.Streams.{stream_left}
+use Rattle.form_expand.proofs.Called.{AreTaken}
 use Rattle.form_expand.proofs.+taking.Given as goal
 
 -- each call goes one function further, or into a parenthesis
 
 abbrev pub decreases-stream::Stream::next : goal.decreases-stream::Stream::next
-decreases-stream::Stream::next l = l.deeper * 6 + 5
+decreases-stream::Stream::next l = l.deeper * 12 + 11
 
 abbrev pub decreases-product::Product::next : goal.decreases-product::Product::next
-decreases-product::Product::next l = l.deeper * 6 + 4
+decreases-product::Product::next l = l.deeper * 12 + 10
 
 abbrev pub decreases-product::Product::step : goal.decreases-product::Product::step
-decreases-product::Product::step l = l.deeper * 6 + 3
+decreases-product::Product::step l = l.deeper * 12 + 9
 
 abbrev pub decreases-product::Level::take : goal.decreases-product::Level::take
-decreases-product::Level::take l = l.deeper * 6 + 2
+decreases-product::Level::take l = l.deeper * 12 + 8
 
 abbrev pub decreases-factor::Factor::next_times : goal.decreases-factor::Factor::next_times
-decreases-factor::Factor::next_times l = l.deeper * 6 + 1
+decreases-factor::Factor::next_times l = l.deeper * 12 + 7
 
 abbrev pub decreases-parenthesis::Parenthesis::next_times : goal.decreases-parenthesis::Parenthesis::next_times
-decreases-parenthesis::Parenthesis::next_times l = l.deeper * 6
+decreases-parenthesis::Parenthesis::next_times l = l.deeper * 12 + 4
+
+abbrev pub decreases-parenthesis::Parenthesis::step_times : goal.decreases-parenthesis::Parenthesis::step_times
+decreases-parenthesis::Parenthesis::step_times l = l.deeper * 12 + 3
+
+abbrev pub decreases-function::Function::list : goal.decreases-function::Function::list
+decreases-function::Function::list l = l.deeper * 12 + 6
+
+abbrev pub decreases-function::written_out : goal.decreases-function::written_out
+decreases-function::written_out l = l.deeper * 12 + 5
+
+abbrev pub decreases-function::read_argument : goal.decreases-function::read_argument
+decreases-function::read_argument l = l.deeper * 12 + 3
+
+abbrev pub decreases-function::read_expression : goal.decreases-function::read_expression
+decreases-function::read_expression l = l.deeper * 12 + 2
+
+abbrev pub decreases-function::collected : goal.decreases-function::collected
+decreases-function::collected l = l.deeper * 12 + 1
 
 abbrev pub invariant-stream::Stream::next-loop : goal.invariant-stream::Stream::next-loop
 invariant-stream::Stream::next-loop l = stream_left l.self ≡ stream_left l.initial.self
 
 abbrev pub invariant-product::Product::next-loop : goal.invariant-product::Product::next-loop
 invariant-product::Product::next-loop l = product_left l.limit l.self ≡ product_left l.limit l.initial.self
+
+abbrev pub invariant-parenthesis::Parenthesis::next_times-loop : goal.invariant-parenthesis::Parenthesis::next_times-loop
+invariant-parenthesis::Parenthesis::next_times-loop l = record {
+  left : times_by l.left l.self.left ≡ times_by l.left l.initial.self.left;
+  whole : l.self.whole ≡ l.initial.self.whole;
+}
+
+-- the arguments before are read
+abbrev pub invariant-function::written_out-loop-rest : goal.invariant-function::written_out-loop-rest
+invariant-function::written_out-loop-rest l =
+    IsFurther l.limit l.stored (list_of_calling l.stored (calling l.limit l.function l.is_commuting) l.pieces) l.function l.is_commuting l.arguments l.rest
+
+abbrev pub decreases-function::written_out-loop-rest : goal.decreases-function::written_out-loop-rest
+decreases-function::written_out-loop-rest l = length l.rest
+
+-- these terms were taken from the list
+abbrev pub invariant-function::collected-loop : goal.invariant-function::collected-loop
+invariant-function::collected-loop l = AreTaken l.collector (stream_left l.initial.list) (stream_left l.list)

@@ -11,4 +11,4 @@ returns-clause-sound c =
     let modules = c.args.modules.now in
     let state = state_of c.loop-module.checker in
     let all : each module_checked start modules ≡ Ok state = each-end module_checked state modules c.loop-module.module-index (each module_checked start modules) (omega arith) c.loop-module.invariant.checked in
-    rw c.new.ensures (sound modules state c.requires all)
+    rw c.new.ensures (sound c.one_tree.ensures.found modules state c.requires all)

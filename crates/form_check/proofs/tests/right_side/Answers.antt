@@ -1,12 +1,19 @@
-use Rattle.std.proofs.Common.{◌∙◌, ◌++◌, ◌∷◌, [], None, ap}
+use Rattle.std.proofs.Common.{◌∙◌, ◌++◌, ◌∷◌, [], None, ap, arith}
 use Rattle.form_ast.specs.declared.expr.Link.TheVariants.{First}
-use Rattle.form_ast.specs.declared.expr.Piece.TheVariants.{Name}
-use Rattle.form_ast.specs.Syntax.{first, one, factor, name}
+use Rattle.form_ast.specs.declared.expr.Named.TheVariants.{Declared}
+use Rattle.form_ast.specs.declared.expr.Piece.TheVariants.{Name, Call, EndOfCall}
+use Rattle.form_ast.specs.Syntax.{first, one, factor, name, call, argument}
 use Rattle.form_check.proofs.tests.right_side.Goals as goal
 
 pub returns : goal.returns
-returns c = record {
-  tree = first None (one (factor (name c.in_ok-spelled.field-0) None));
-  lawful = tt;
-  pieces = c.from_vec.ensures ∙ c.in_ok-push.ensures.items ∙ ap (λ ps. ps ++ Name First c.in_ok-spelled.field-0 None ∷ []) c.new-pieces.ensures.items;
-}
+returns c =
+    let before = Declared c.in_ok-spelled.field-0 in
+    let inner = Declared c.in_ok-spelled-2.field-0 in
+    record {
+      tree = first None (one (factor (call before (argument (first None (one (factor (name inner) None))))) None));
+      lawful = (omega arith, tt, tt, tt);
+      pieces = c.from_vec.ensures ∙ c.in_ok-push-3.ensures.items
+          ∙ ap (λ ps. ps ++ EndOfCall None ∷ []) (c.in_ok-push-2.ensures.items
+          ∙ ap (λ ps. ps ++ Name First inner None ∷ []) (c.in_ok-push.ensures.items
+          ∙ ap (λ ps. ps ++ Call First before ∷ []) c.new-pieces.ensures.items));
+    }

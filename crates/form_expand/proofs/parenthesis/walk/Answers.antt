@@ -4,7 +4,7 @@ use Rattle.std.proofs.lemmas.Result.{err_from_is_err_and}
 use Rattle.form_expand.specs.Left.{times_by}
 use Rattle.form_expand.specs.Walks.{all_of, terms_left}
 use Rattle.form_expand.proofs.Places.{begins_at}
-use Rattle.form_expand.proofs.Taking.{gives_unmade, times_by_made, times_by_end}
+use Rattle.form_expand.proofs.Taking.{goes_unmade, goes_made, times_by_end}
 use Rattle.form_expand.proofs.parenthesis.walk.Goals as goal
 
 pub returns-in_default : goal.returns-in_default
@@ -19,10 +19,10 @@ returns-in_err-made c =
     let place = c.args.place.now in
     let first = begins_at (all_of c.args.terms.now) place (Some c.in-Some.term) (rw c.in-Some.is at c.get.ensures.lookup) in
     let e = err_from_is_err_and c.from_residual.result c.from_residual.ensures.1 in
-    rw (e.1, e.2) (gives_unmade c.args.left.now c.in-Some.term.now (terms_left place c.args.terms.now) (terms_left (place + 1) c.args.terms.now) (c.in_err-made.field-0.0) (times_by c.args.left.now (terms_left place c.args.terms.now)) first.0 c.in_err-made.ensures)
+    rw (e.1, e.2) (goes_unmade c.args.left.now c.in-Some.term.now (terms_left place c.args.terms.now) (terms_left (place + 1) c.args.terms.now) (c.in_err-made.field-0.0) (times_by c.args.left.now (terms_left place c.args.terms.now)) first.0 c.in_err-made.ensures)
 
 pub returns : goal.returns
 returns c =
     let place = c.args.place.now in
     let first = begins_at (all_of c.args.terms.now) place (Some c.in-Some.term) (rw c.in-Some.is at c.get.ensures.lookup) in
-    times_by_made c.args.left.now c.in-Some.term.now c.in_ok-made.made (terms_left place c.args.terms.now) (terms_left (place + 1) c.args.terms.now) first.0 c.in_ok-made.ensures
+    rw c.of.ensures (goes_made c.args.left.now c.in-Some.term.now c.in_ok-made.made (terms_left place c.args.terms.now) (terms_left (place + 1) c.args.terms.now) first.0 c.in_ok-made.ensures)

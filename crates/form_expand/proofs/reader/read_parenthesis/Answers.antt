@@ -1,7 +1,7 @@
 use Rattle.std.proofs.Common.{◌≡◌, ◌-◌, ◌++◌, ◌∷◌, [], false, sym, ap, ◌∙◌, arith, map, take, drop}
 use Rattle.form_expand.specs.Factors.{factor_whole}
 use Rattle.form_expand.specs.Listing.{powers}
-use Rattle.form_expand.specs.Reading.{fresh, read_from, list_of_pieces}
+use Rattle.form_expand.specs.Reading.{in_sum, fresh, read_from, list_of_pieces}
 use Rattle.form_expand.specs.Readers.{in_product, product_part}
 use Rattle.form_expand.proofs.Behind.{read_none}
 use Rattle.form_expand.proofs.Parenthesized.{read_unended, read_ended, factor_pushed, drop_next}
@@ -11,17 +11,17 @@ pub returns-in_default-clause-read : goal.returns-in_default-clause-read
 returns-in_default-clause-read c = λ m.
     let all = c.args.stored.now in
     let p = product_part c.args.limit m (map (factor_whole c.args.limit) c.args.factors.now.items) in
-    read_unended all p 0 (fresh c.args.limit) [] c.args.pieces.now (sym c.closing.ensures ∙ c.in_default.is)
-    ∙ sym (read_none all (record { top = p; outer = [] }))
+    read_unended all (in_sum p) 0 (in_sum (fresh c.args.limit)) [] c.args.pieces.now (sym c.closing.ensures ∙ c.in_default.is)
+    ∙ sym (read_none all (record { top = in_sum p; outer = [] }))
 
 pub split_at-requires : goal.split_at-requires
 split_at-requires c =
-    let h = read_ended c.args.stored.now (product_part c.args.limit false []) 0 (fresh c.args.limit) [] c.args.pieces.now c.in-Some.len c.in-Some.power (sym c.closing.ensures ∙ c.in-Some.is) in
+    let h = read_ended c.args.stored.now (in_sum (product_part c.args.limit false [])) 0 (in_sum (fresh c.args.limit)) [] c.args.pieces.now c.in-Some.len c.in-Some.power (sym c.closing.ensures ∙ c.in-Some.is) in
     omega (arith, h.within)
 
 pub split_at-requires-2 : goal.split_at-requires-2
 split_at-requires-2 c =
-    let h = read_ended c.args.stored.now (product_part c.args.limit false []) 0 (fresh c.args.limit) [] c.args.pieces.now c.in-Some.len c.in-Some.power (sym c.closing.ensures ∙ c.in-Some.is) in
+    let h = read_ended c.args.stored.now (in_sum (product_part c.args.limit false [])) 0 (in_sum (fresh c.args.limit)) [] c.args.pieces.now c.in-Some.len c.in-Some.power (sym c.closing.ensures ∙ c.in-Some.is) in
     omega (arith, h.within, c.split_at.ensures.back_len)
 
 pub returns-clause-read : goal.returns-clause-read
@@ -32,7 +32,7 @@ returns-clause-read c = λ m.
     let len = c.in-Some.len in
     let power = c.in-Some.power in
     let old = map (factor_whole max) c.args.factors.now.items in
-    let h = read_ended all (product_part max m old) 0 (fresh max) [] ps len power (sym c.closing.ensures ∙ c.in-Some.is) in
+    let h = read_ended all (in_sum (product_part max m old)) 0 (in_sum (fresh max)) [] ps len power (sym c.closing.ensures ∙ c.in-Some.is) in
     let e : len - 0 ≡ len = omega arith in
     let here = rw e at h.read in
     let factor = c.in_ok-parenthesis.ensures ∙ ap (λ qs. powers max (list_of_pieces max all qs) power) c.split_at.ensures.front in

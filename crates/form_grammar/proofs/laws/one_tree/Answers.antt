@@ -4,7 +4,7 @@ use Rattle.form_grammar.proofs.laws.one_tree.Goals as goal
 
 pub returns-clause-tree : goal.returns-clause-tree
 returns-clause-tree c = λ terminals tree other h k e f.
-    read.one_tree c.one_tree.ensures terminals _ _ (record { tree = tree; lawful = h; written = e; kept = refl }) (record { tree = other; lawful = k; written = f; kept = refl })
+    read.one_tree c.one_tree.ensures.one terminals _ _ (record { tree = tree; lawful = h; written = e; kept = refl }) (record { tree = other; lawful = k; written = f; kept = refl })
 
 pub returns-clause-pieces : goal.returns-clause-pieces
 returns-clause-pieces c = read.one_list

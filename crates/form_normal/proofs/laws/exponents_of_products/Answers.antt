@@ -1,4 +1,4 @@
-use Rattle.form_normal.proofs.Merging.{exponent_of_product, product_from}
+use Rattle.form_normal.proofs.Powers.{exponent_of_product, product_from}
 use Rattle.form_normal.proofs.laws.exponents_of_products.Goals as goal
 
 pub returns-clause-added : goal.returns-clause-added

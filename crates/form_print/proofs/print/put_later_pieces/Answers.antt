@@ -1,6 +1,6 @@
 use Rattle.std.proofs.Common.{◌≡◌, ◌∷◌, arith}
 use Rattle.std.proofs.lemmas.Grind.{common_steps}
-use Rattle.form_print.specs.Printing.{later_piece}
+use Rattle.form_print.specs.Joined.{later_piece}
 use Rattle.form_print.proofs.Pieces.{later_pieces-at, later_pieces-parts}
 use Rattle.form_outside.proofs.Written.{Takes_break, Takes_stop}
 use Rattle.form_print.proofs.print.put_later_pieces.Goals as goal

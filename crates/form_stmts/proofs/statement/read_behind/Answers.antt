@@ -1,11 +1,14 @@
 use Rattle.form_stmts.specs.Reading.{terminals}
-use Rattle.form_stmts.specs.Statement.{AreNames, AreNamesOrNone, FollowsKeyword}
-use Rattle.form_stmts.specs.declared.keyword.Keyword.TheVariants.{Symbols, Drop, Skip, Print}
+use Rattle.form_stmts.specs.Statement.{AreNames, AreNamesOrNone, AreIndices, FollowsKeyword}
+use Rattle.form_stmts.specs.declared.keyword.Keyword.TheVariants.{Names, Indices, Drop, Skip, Print}
 use Rattle.form_stmts.proofs.Excluded.{excluded}
 use Rattle.form_stmts.proofs.statement.read_behind.Goals as goal
 
 pub returns-in-Err-clause-none : goal.returns-in-Err-clause-none
-returns-in-Err-clause-none c = rw c.in-Symbols.is (excluded (AreNames (terminals c.args.tokens)) (FollowsKeyword Symbols (terminals c.args.tokens)) c.in-Err.error (λ s h. (h.0, h.1)) c.in-Err.ensures.none)
+returns-in-Err-clause-none c = rw c.in-Names.is (excluded (AreNames (terminals c.args.tokens)) (FollowsKeyword (Names c.in-Names.declared) (terminals c.args.tokens)) c.in-Err.error (λ s h. (h.0, h.1)) c.in-Err.ensures.none)
+
+pub returns-in-Err-read_indices-clause-none : goal.returns-in-Err-read_indices-clause-none
+returns-in-Err-read_indices-clause-none c = rw c.in-Indices.is (excluded (AreIndices (terminals c.args.tokens)) (FollowsKeyword Indices (terminals c.args.tokens)) c.in-Err-read_indices.error (λ s h. (h.0, h.1)) c.in-Err-read_indices.ensures.none)
 
 pub returns-in-Err-read_names_or_none-clause-none : goal.returns-in-Err-read_names_or_none-clause-none
 returns-in-Err-read_names_or_none-clause-none c = rw c.in-Drop.is (excluded (AreNamesOrNone (terminals c.args.tokens)) (FollowsKeyword Drop (terminals c.args.tokens)) c.in-Err-read_names_or_none.error (λ s h. (h.0, h.1)) c.in-Err-read_names_or_none.ensures.none)

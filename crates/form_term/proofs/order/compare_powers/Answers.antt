@@ -2,7 +2,7 @@
 use Rattle.std.proofs.Common.{sym, ◌∙◌}
 use Rattle.std.specs.declared.cmp.Ordering.TheVariants.{Less, Equal, Greater}
 use Rattle.std.proofs.lemmas.Cmp.{ranked}
-use Rattle.form_term.specs.TermLaws.{single_less, single_same, single_greater}
+use Rattle.form_term.specs.SymbolLaws.{single_less, single_same, single_greater}
 use Rattle.form_term.proofs.order.compare_powers.Goals as goal
 
 pub returns-in-Less : goal.returns-in-Less

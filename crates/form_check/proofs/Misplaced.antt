@@ -1,0 +1,130 @@
+-- Names that can't stand in the parentheses of a vector, and the commas there.
+use Rattle.std.proofs.Common.{◌≡◌, ℕ, suc, List, [], ◌∷◌, ◌++◌, refl, sym, ap, ◌∙◌, append_assoc, add-one, false}
+use Rattle.std.proofs.lemmas.List.{append-nil}
+use Rattle.form_names.specs.Names.{Entry}
+use Rattle.form_ast.specs.declared.expr.Link.{Link}
+use Rattle.form_ast.specs.declared.expr.Link.TheVariants as links
+use Rattle.form_ast.specs.declared.expr.Power.{Power}
+use Rattle.form_ast.specs.declared.expr.Piece.{Piece}
+use Rattle.form_ast.specs.declared.expr.Piece.TheVariants as written
+use Rattle.form_ast.specs.Syntax.{Sum, first, more, Product, one, times, over, Factor, factor, number, name, dot, delta, empty_call, call, parenthesis, Arguments, argument, further, link_of, first_link, pieces_of_sum, pieces_of_product, pieces_of_factor, pieces_of_arguments}
+use Rattle.form_check.specs.Refusal.{Refusal}
+use Rattle.form_check.specs.RightSide.{first_misplaced}
+use Rattle.form_check.specs.Walking.{is_single, misplaced_to_end}
+use Rattle.std.specs.Prelude.{Option}
+use Rattle.form_check.proofs.Binding.{minus-one, not-zero}
+
+-- ---- commas
+
+ends-one : (k : ℕ) (power : Option Power) (rest : List Piece) → is_single (suc k) (written.EndOfCall power ∷ rest) ≡ is_single k rest
+unfolding is_single
+ends-one k power rest = rw (not-zero k, minus-one k) refl
+
+passes-comma : (k : ℕ) (rest : List Piece) → is_single (suc k) (written.Comma ∷ rest) ≡ is_single (suc k) rest
+unfolding is_single
+passes-comma k rest = rw (not-zero k) refl
+
+mutual
+  unfolding is_single
+
+  pub single-sum : (s : Sum) (k : ℕ) (rest : List Piece) → is_single k (pieces_of_sum s ++ rest) ≡ is_single k rest
+  single-sum (first sign p) k rest = single-product (first_link sign) p k rest
+  single-sum (more s sign p) k rest =
+      ap (is_single k) (append_assoc (pieces_of_sum s) (pieces_of_product (link_of sign) p) rest)
+      ∙ single-sum s k (pieces_of_product (link_of sign) p ++ rest) ∙ single-product (link_of sign) p k rest
+
+  single-product : (link : Link) (p : Product) (k : ℕ) (rest : List Piece) → is_single k (pieces_of_product link p ++ rest) ≡ is_single k rest
+  single-product link (one f) k rest = single-factor link f k rest
+  single-product link (times p f) k rest =
+      ap (is_single k) (append_assoc (pieces_of_product link p) (pieces_of_factor links.Times f) rest)
+      ∙ single-product link p k (pieces_of_factor links.Times f ++ rest) ∙ single-factor links.Times f k rest
+  single-product link (over p f) k rest =
+      ap (is_single k) (append_assoc (pieces_of_product link p) (pieces_of_factor links.Over f) rest)
+      ∙ single-product link p k (pieces_of_factor links.Over f ++ rest) ∙ single-factor links.Over f k rest
+
+  single-factor : (link : Link) (f : Factor) (k : ℕ) (rest : List Piece) → is_single k (pieces_of_factor link f ++ rest) ≡ is_single k rest
+  single-factor link (factor (number n) power) k rest = refl
+  single-factor link (factor (name n) power) k rest = refl
+  single-factor link (factor (dot p q) power) k rest = refl
+  single-factor link (factor (delta spot a c) power) k rest = refl
+  single-factor link (factor (empty_call n) power) k rest =
+      ap (λ (m : ℕ). is_single m (written.EndOfCall power ∷ rest)) (add-one k) ∙ ends-one k power rest
+  single-factor link (factor (call n args) power) k rest =
+      ap (λ (m : ℕ). is_single m ((pieces_of_arguments args ++ written.EndOfCall power ∷ []) ++ rest)) (add-one k)
+      ∙ ap (is_single (suc k)) (append_assoc (pieces_of_arguments args) (written.EndOfCall power ∷ []) rest)
+      ∙ single-arguments args k (written.EndOfCall power ∷ rest)
+      ∙ ends-one k power rest
+  single-factor link (factor (parenthesis s) power) k rest =
+      ap (is_single k) (append_assoc (pieces_of_sum s) (written.Close power ∷ []) rest)
+      ∙ single-sum s k (written.Close power ∷ rest)
+
+  single-arguments : (args : Arguments) (k : ℕ) (rest : List Piece) → is_single (suc k) (pieces_of_arguments args ++ rest) ≡ is_single (suc k) rest
+  single-arguments (argument s) k rest = single-sum s (suc k) rest
+  single-arguments (further args s) k rest =
+      ap (is_single (suc k)) (append_assoc (pieces_of_arguments args) (written.Comma ∷ pieces_of_sum s) rest)
+      ∙ single-arguments args k (written.Comma ∷ pieces_of_sum s ++ rest)
+      ∙ passes-comma k (pieces_of_sum s ++ rest)
+      ∙ single-sum s (suc k) rest
+
+-- a comma parts arguments
+pub parted : (args : Arguments) (s : Sum) (rest : List Piece) → is_single 0 (pieces_of_arguments (further args s) ++ rest) ≡ false
+unfolding is_single
+parted (argument t) s rest =
+    ap (is_single 0) (append_assoc (pieces_of_sum t) (written.Comma ∷ pieces_of_sum s) rest)
+    ∙ single-sum t 0 (written.Comma ∷ pieces_of_sum s ++ rest)
+parted (further args t) s rest =
+    ap (is_single 0) (append_assoc (pieces_of_arguments (further args t)) (written.Comma ∷ pieces_of_sum s) rest)
+    ∙ parted args t (written.Comma ∷ pieces_of_sum s ++ rest)
+
+-- ---- names
+
+module _ (names : List Entry) where
+  misplaced-append : (a b : List Piece) (none : Refusal) → first_misplaced names (a ++ b) none ≡ first_misplaced names a (first_misplaced names b none)
+  unfolding first_misplaced
+  misplaced-append [] b none = refl
+  misplaced-append (written.Number link n power ∷ a) b none = misplaced-append a b none
+  misplaced-append (written.Name link n power ∷ a) b none = refl
+  misplaced-append (written.Dot link n ∷ a) b none = refl
+  misplaced-append (written.EndOfDot n power ∷ a) b none = misplaced-append a b none
+  misplaced-append (written.Delta link spot e ∷ a) b none = refl
+  misplaced-append (written.EndOfDelta e power ∷ a) b none = misplaced-append a b none
+  misplaced-append (written.Call link n ∷ a) b none = refl
+  misplaced-append (written.Comma ∷ a) b none = misplaced-append a b none
+  misplaced-append (written.EndOfCall power ∷ a) b none = misplaced-append a b none
+  misplaced-append (written.Open link ∷ a) b none = misplaced-append a b none
+  misplaced-append (written.Close power ∷ a) b none = misplaced-append a b none
+
+  abbrev Seen : List Piece → Type 0
+  Seen text = (rest : List Piece) (none : Refusal) → misplaced_to_end names (text ++ rest) none ≡ first_misplaced names text (misplaced_to_end names rest none)
+
+  seen-append : (a b : List Piece) → Seen a → Seen b → Seen (a ++ b)
+  seen-append a b f g rest none =
+      ap (λ (t : List Piece). misplaced_to_end names t none) (append_assoc a b rest) ∙ f (b ++ rest) none
+      ∙ ap (first_misplaced names a) (g rest none)
+      ∙ sym (misplaced-append a b (misplaced_to_end names rest none))
+
+  seen-close : (power : Option Power) → Seen (written.Close power ∷ [])
+  unfolding first_misplaced misplaced_to_end
+  seen-close power rest none = refl
+
+  mutual
+    unfolding first_misplaced misplaced_to_end
+
+    pub seen-sum : (s : Sum) → Seen (pieces_of_sum s)
+    seen-sum (first sign p) rest none = seen-product (first_link sign) p rest none
+    seen-sum (more s sign p) rest none = seen-append (pieces_of_sum s) (pieces_of_product (link_of sign) p) (λ r n. seen-sum s r n) (λ r n. seen-product (link_of sign) p r n) rest none
+
+    seen-product : (link : Link) (p : Product) → Seen (pieces_of_product link p)
+    seen-product link (one f) rest none = seen-factor link f rest none
+    seen-product link (times p f) rest none = seen-append (pieces_of_product link p) (pieces_of_factor links.Times f) (λ r n. seen-product link p r n) (λ r n. seen-factor links.Times f r n) rest none
+    seen-product link (over p f) rest none = seen-append (pieces_of_product link p) (pieces_of_factor links.Over f) (λ r n. seen-product link p r n) (λ r n. seen-factor links.Over f r n) rest none
+
+    seen-factor : (link : Link) (f : Factor) → Seen (pieces_of_factor link f)
+    seen-factor link (factor (number n) power) rest none = refl
+    seen-factor link (factor (name n) power) rest none = refl
+    seen-factor link (factor (dot p q) power) rest none = refl
+    seen-factor link (factor (delta spot a c) power) rest none = refl
+    seen-factor link (factor (empty_call n) power) rest none = refl
+    seen-factor link (factor (call n args) power) rest none = refl
+    seen-factor link (factor (parenthesis s) power) rest none =
+        seen-append (pieces_of_sum s) (written.Close power ∷ []) (λ r n. seen-sum s r n) (seen-close power) rest none

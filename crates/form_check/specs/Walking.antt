@@ -1,0 +1,210 @@
+-- Going through the pieces of a right side from the front, piece by piece. That this gives what RightSide says is proved.
+use Rattle.std.specs.Prelude.{◌≡◌, ℕ, ◌+◌, ◌-◌, Bool, true, false, ◌==◌, ◌&&◌, pos, if◌then◌else◌, List, [], ◌∷◌, ◌++◌, Option, Some, None, option_map, Result, Ok, Err}
+use Rattle.form_names.specs.Names.{Entry}
+use Rattle.form_ast.specs.declared.expr.Link.{Link}
+use Rattle.form_ast.specs.declared.expr.Link.TheVariants as links
+use Rattle.form_ast.specs.declared.expr.Named.{Named}
+use Rattle.form_ast.specs.declared.expr.Entry as entries
+use Rattle.form_ast.specs.declared.expr.Entry.TheVariants as by_entry
+use Rattle.form_ast.specs.declared.expr.Power.{Power}
+use Rattle.form_ast.specs.declared.expr.Piece.{Piece}
+use Rattle.form_ast.specs.declared.expr.Piece.TheVariants as written
+use Rattle.form_tree.specs.declared.tree.Link as resolved_link
+use Rattle.form_tree.specs.declared.tree.Link.TheVariants as resolved_links
+use Rattle.form_tree.specs.declared.tree.Piece as resolved
+use Rattle.form_tree.specs.declared.tree.Piece.TheVariants as pieces
+use Rattle.form_tree.specs.Tree as tree
+use Rattle.form_check.specs.declared.resolved.End as ends
+use Rattle.form_check.specs.declared.resolved.End.TheVariants as an_end
+use Rattle.form_check.specs.declared.resolved.Head as heads
+use Rattle.form_check.specs.declared.resolved.Head.TheVariants as a_head
+use Rattle.form_check.specs.declared.walk.Place.{Place}
+use Rattle.form_check.specs.declared.walk.Place.TheVariants as places
+use Rattle.form_check.specs.declared.walk.Walk as walks
+use Rattle.form_check.specs.Refusal.{Refusal, ◌>>=◌}
+use Rattle.form_check.specs.RightSide.{largest_exponent, largest_power, size_within, exponent, spelled_of, wrong, wrong_kind, misplaced, delta_at, named_end, fixed_end, number, name, vector, end, linked_to, head, lone, none_stands}
+
+-- how a factor stands to what is before it, where a division is left to its power
+abbrev pub link_of : Link → resolved_link.Link
+link_of links.First = resolved_links.Plus
+link_of links.Plus = resolved_links.Plus
+link_of links.Minus = resolved_links.Minus
+link_of links.Times = resolved_links.Times
+link_of links.Over = resolved_links.Times
+
+abbrev pub is_over : Link → Bool
+is_over links.First = false
+is_over links.Plus = false
+is_over links.Minus = false
+is_over links.Times = false
+is_over links.Over = true
+
+-- what was made, where the walk stands, and in the arguments of how many functions
+pub record Walk : Type 0 where
+  pub pieces : List resolved.Piece
+  pub place : Place
+  pub calls : ℕ
+
+abbrev pub walk_of : walks.Walk → Walk
+walk_of w = record { pieces = w.pieces.items; place = w.place; calls = w.calls }
+
+abbrev pub at : List resolved.Piece → Place → ℕ → Walk
+at pieces place calls = record { pieces = pieces; place = place; calls = calls }
+
+abbrev pub moved : Walk → Place → Walk
+moved w place = at w.pieces place w.calls
+
+abbrev pub with_factor : Walk → Link → tree.Factor → Walk
+with_factor w link f = at (w.pieces ++ tree.pieces_of_factor (link_of link) f) places.Sum w.calls
+
+abbrev pub adds : Walk → Link → Result tree.Factor Refusal → Result Walk Refusal
+adds w link r = r >>= (λ f. Ok (with_factor w link f))
+
+-- an expression may be named outside arguments
+abbrev pub may_name : ℕ → (ℕ → Bool) → ℕ → Bool
+may_name calls stands id = (calls == 0) && stands id
+
+-- ---- arguments
+
+abbrev pub ends_argument : List Piece → Bool
+ends_argument (written.Comma ∷ rest) = true
+ends_argument (written.EndOfCall power ∷ rest) = true
+ends_argument _ = false
+
+-- a piece that is a whole argument, if that ends behind it
+abbrev pub alone_piece : Piece → Option entries.Entry
+alone_piece (written.Number links.First n None) = Some (by_entry.Number n)
+alone_piece (written.Name links.First n None) = Some (by_entry.Name n)
+alone_piece _ = None
+
+abbrev pub alone_before : List Piece → Piece → Option entries.Entry
+alone_before rest p = if ends_argument rest then alone_piece p else None
+
+abbrev pub alone_at : List Piece → Option entries.Entry
+alone_at [] = None
+alone_at (p ∷ rest) = alone_before rest p
+
+-- up to the end of these arguments stands no comma that parts them; so many calls in them are open
+unfoldable pub is_single : ℕ → List Piece → Bool
+is_single opened [] = false
+is_single opened (written.Call link n ∷ rest) = is_single (opened + 1) rest
+is_single opened (written.Comma ∷ rest) = if opened == 0 then false else is_single opened rest
+is_single opened (written.EndOfCall power ∷ rest) = if opened == 0 then true else is_single (opened - 1) rest
+is_single opened (_ ∷ rest) = is_single opened rest
+
+-- the first name up to the end of the first call
+unfoldable pub misplaced_to_end : List Entry → List Piece → Refusal → Refusal
+misplaced_to_end names [] none = none
+misplaced_to_end names (written.Name link n power ∷ rest) none = misplaced names n
+misplaced_to_end names (written.Dot link n ∷ rest) none = misplaced names n
+misplaced_to_end names (written.Call link n ∷ rest) none = misplaced names n
+misplaced_to_end names (written.Delta link spot a ∷ rest) none = wrong (delta_at spot)
+misplaced_to_end names (written.EndOfCall power ∷ rest) none = none
+misplaced_to_end names (_ ∷ rest) none = misplaced_to_end names rest none
+
+-- ---- one piece further
+
+abbrev pub component_begun : List Entry → Walk → Link → Named → ℕ → List Piece → Option entries.Entry → Result Walk Refusal
+component_begun names w link n id rest (Some e) = Ok (moved w (places.Vector link id))
+component_begun names w link n id rest None = Err (misplaced_to_end names rest (wrong (spelled_of n)))
+
+abbrev pub called_by : List Entry → Walk → Link → Named → List Piece → heads.Head → Result Walk Refusal
+called_by names w link n rest (a_head.Function id is_commuting) =
+    Ok (at (w.pieces ++ pieces.Function (link_of link) id is_commuting ∷ []) places.Argument (w.calls + 1))
+called_by names w link n rest (a_head.Vector id) =
+    if is_single 0 rest then component_begun names w link n id rest (alone_at rest) else wrong_kind (spelled_of n)
+
+abbrev pub called : List Entry → Walk → Link → Named → List Piece → Result Walk Refusal
+called names w link n rest = head names n >>= called_by names w link n rest
+
+-- the arguments of a function end
+abbrev pub call_ended : Walk → Option Power → Result Walk Refusal
+call_ended w power = size_within largest_power power >>= (λ size. Ok (at (w.pieces ++ pieces.EndOfFunction size ∷ []) places.Sum (w.calls - 1)))
+
+-- an argument that is an expression ends
+abbrev pub argument_ended : Walk → Walk
+argument_ended w = at (w.pieces ++ pieces.EndOfArgument ∷ []) w.place w.calls
+
+abbrev pub in_sum : List Entry → (ℕ → Bool) → Walk → Piece → List Piece → Result Walk Refusal
+in_sum names stands w (written.Number link n power) rest = adds w link (number (is_over link) n power)
+in_sum names stands w (written.Name link n power) rest = adds w link (name names (may_name w.calls stands) (is_over link) n power)
+in_sum names stands w (written.Dot link p) rest = vector names p >>= (λ left. Ok (moved w (places.Dot link left)))
+in_sum names stands w (written.EndOfDot q power) rest = Ok w
+in_sum names stands w (written.Delta link spot a) rest = end names a >>= (λ first. Ok (moved w (places.Delta link first)))
+in_sum names stands w (written.EndOfDelta b power) rest = Ok w
+in_sum names stands w (written.Call link n) rest = called names w link n rest
+in_sum names stands w written.Comma rest = Ok (moved (argument_ended w) places.Argument)
+in_sum names stands w (written.EndOfCall power) rest = call_ended (argument_ended w) power
+in_sum names stands w (written.Open link) rest = Ok (at (w.pieces ++ pieces.Open (link_of link) ∷ []) places.Sum w.calls)
+in_sum names stands w (written.Close power) rest =
+    size_within largest_power power >>= (λ size. Ok (at (w.pieces ++ pieces.Close size ∷ []) places.Sum w.calls))
+
+abbrev pub argument_begun : List Entry → (ℕ → Bool) → Walk → Piece → List Piece → Option tree.Argument → Result Walk Refusal
+argument_begun names stands w p rest (Some a) = Ok (at (w.pieces ++ tree.pieces_of_argument a) places.Behind w.calls)
+argument_begun names stands w p rest None = in_sum names stands (at (w.pieces ++ pieces.Argument ∷ []) places.Sum w.calls) p rest
+
+-- a piece is this argument, where it is one
+abbrev pub IsLone : Option resolved.Piece → Option tree.Argument → Type 0
+IsLone None a = a ≡ None
+IsLone (Some p) a = Some (p ∷ []) ≡ option_map tree.pieces_of_argument a
+
+-- the power behind a `)` that ends arguments
+abbrev pub ended_with : Piece → Option (Option Power)
+ended_with (written.EndOfCall power) = Some power
+ended_with _ = None
+
+abbrev pub in_arguments_by : List Entry → (ℕ → Bool) → Walk → Piece → List Piece → Option (Option Power) → Result Walk Refusal
+in_arguments_by names stands w p rest (Some power) = call_ended w power
+in_arguments_by names stands w p rest None = argument_begun names stands w p rest (lone names (alone_before rest p))
+
+-- where an argument may begin
+abbrev pub in_arguments : List Entry → (ℕ → Bool) → Walk → Piece → List Piece → Result Walk Refusal
+in_arguments names stands w p rest = in_arguments_by names stands w p rest (ended_with p)
+
+-- behind an argument that is an index or a vector alone
+abbrev pub behind_argument : Walk → Piece → Result Walk Refusal
+behind_argument w written.Comma = Ok (moved w places.Argument)
+behind_argument w (written.EndOfCall power) = call_ended w power
+behind_argument w _ = Ok w
+
+abbrev pub dot_ended : List Entry → Walk → Link → ℕ → Piece → Result Walk Refusal
+dot_ended names w link left (written.EndOfDot q power) =
+    adds w link (vector names q >>= (λ right. size_within largest_exponent power >>= (λ size. Ok (tree.dot left right (exponent (is_over link) power size)))))
+dot_ended names w link left _ = Ok w
+
+abbrev pub delta_ended : List Entry → Walk → Link → ends.End → Piece → Result Walk Refusal
+delta_ended names w link first (written.EndOfDelta b power) = adds w link (end names b >>= (λ second. linked_to first second power))
+delta_ended names w link first _ = Ok w
+
+-- what a piece that stands alone is in the parentheses of a vector
+abbrev pub alone_end : List Entry → Option entries.Entry → Result (Option ends.End) Refusal
+alone_end names None = Ok None
+alone_end names (Some e) = end names e >>= (λ x. Ok (Some x))
+
+abbrev pub component_given : Walk → Link → ℕ → Option ends.End → Walk
+component_given w link id (Some x) = moved w (places.Component link id x)
+component_given w link id None = w
+
+abbrev pub component_taken : List Entry → Walk → Link → ℕ → Piece → Result Walk Refusal
+component_taken names w link id p = alone_end names (alone_piece p) >>= (λ e. Ok (component_given w link id e))
+
+abbrev pub component_ended : Walk → Link → ℕ → ends.End → Piece → Result Walk Refusal
+component_ended w link id x (written.EndOfCall power) = adds w link (linked_to (an_end.Vector id) x power)
+component_ended w link id x _ = Ok w
+
+abbrev pub taken_at : List Entry → (ℕ → Bool) → Walk → Piece → List Piece → Place → Result Walk Refusal
+taken_at names stands w p rest places.Sum = in_sum names stands w p rest
+taken_at names stands w p rest places.Argument = in_arguments names stands w p rest
+taken_at names stands w p rest places.Behind = behind_argument w p
+taken_at names stands w p rest (places.Dot link left) = dot_ended names w link left p
+taken_at names stands w p rest (places.Delta link first) = delta_ended names w link first p
+taken_at names stands w p rest (places.Vector link id) = component_taken names w link id p
+taken_at names stands w p rest (places.Component link id x) = component_ended w link id x p
+
+abbrev pub taken : List Entry → (ℕ → Bool) → Walk → Piece → List Piece → Result Walk Refusal
+taken names stands w p rest = taken_at names stands w p rest w.place
+
+-- all pieces
+unfoldable pub walked : List Entry → (ℕ → Bool) → Walk → List Piece → Result Walk Refusal
+walked names stands w [] = Ok w
+walked names stands w (p ∷ rest) = taken names stands w p rest >>= (λ next. walked names stands next rest)

@@ -1,0 +1,180 @@
+//! What names stand for, and what can't stand there.
+ghost use Rattle.std.specs.Prelude.{◌≡◌, IfOk};
+ghost use Rattle.form_base.specs.declared.cause.Cause.TheVariants.{WrongKind, Undeclared};
+ghost use Rattle.form_check.specs.Refusal.{Gives, error_of};
+ghost use Rattle.form_check.specs.RightSide.{spelled_of, wrong, delta_at, misplaced as misplaced_name, found as found_of, vector as vector_named, named_end as end_named, fixed_end as end_fixed, end as end_written, head as head_named, lone_named};
+ghost use Rattle.form_check.specs.Walking.{alone_piece, alone_end as end_alone, IsLone};
+
+use crate::CheckError;
+use crate::naming::copy_of;
+use crate::resolved::{End, Found, Head};
+use form_ast::{Entry, Link, Named, Number, Piece, Spelled};
+use form_base::{Cause, Id, Name, Spot};
+use form_names::{Kind, Names};
+use form_term::Index;
+use std::alloc::{AllocError, Global};
+
+/// The largest fixed index.
+const LARGEST_INDEX: u32 = 127;
+
+/// A refusal of a name whose kind can't stand there.
+pub fn wrong_kind(alloc: Global, spelled: &Spelled) -> Result<CheckError, AllocError>
+    ensures { IfOk result (λ e. e ≡ error_of (wrong spelled.now)) }
+{
+    let name = copy_of(alloc, spelled)?;
+    Ok(CheckError::Refused(Cause::WrongKind(name), spelled.spot))
+}
+
+/// The same of a name of the language.
+fn wrong_built_in(alloc: Global, name: &str, spot: Spot) -> Result<CheckError, AllocError>
+    ensures { IfOk result (λ e. e ≡ CheckError.Refused (WrongKind name.now) spot) }
+{
+    let name = Name::new(alloc, name)?;
+    Ok(CheckError::Refused(Cause::WrongKind(name), spot))
+}
+
+/// The same of `d_`.
+pub fn wrong_delta(alloc: Global, spot: Spot) -> Result<CheckError, AllocError>
+    ensures { IfOk result (λ e. e ≡ error_of (wrong (delta_at spot))) }
+{
+    wrong_built_in(alloc, "d_", spot)
+}
+
+/// The same of a name that is declared, or of `i_`.
+pub fn wrong_name(alloc: Global, named: &Named) -> Result<CheckError, AllocError>
+    ensures { IfOk result (λ e. e ≡ error_of (wrong (spelled_of named.now))) }
+{
+    match named {
+        Named::Declared(spelled) => wrong_kind(alloc, spelled),
+        Named::Imaginary(spot) => wrong_built_in(alloc, "i_", *spot),
+    }
+}
+
+/// A refusal of a name where none of its kind can stand.
+pub fn misplaced(alloc: Global, names: &Names, named: &Named) -> Result<CheckError, AllocError>
+    ensures { IfOk result (λ e. e ≡ error_of (misplaced_name names.now named.now)) }
+{
+    match named {
+        Named::Imaginary(_) => wrong_name(alloc, named),
+        Named::Declared(spelled) => match names.lookup(spelled.name.as_str()) {
+            Some(_) => wrong_kind(alloc, spelled),
+            None => {
+                let name = copy_of(alloc, spelled)?;
+                Ok(CheckError::Refused(Cause::Undeclared(name), spelled.spot))
+            }
+        },
+    }
+}
+
+/// What a name is declared as.
+pub fn found(alloc: Global, names: &Names, spelled: &Spelled) -> Result<Found, CheckError>
+    ensures { Gives (λ f. f) result (found_of names.now spelled.now) }
+{
+    match names.lookup(spelled.name.as_str()) {
+        Some(id) => Ok(Found {
+            id,
+            kind: names.kind(id),
+        }),
+        None => {
+            let name = copy_of(alloc, spelled)?;
+            Err(CheckError::Refused(Cause::Undeclared(name), spelled.spot))
+        }
+    }
+}
+
+/// A vector.
+pub fn vector(alloc: Global, names: &Names, named: &Named) -> Result<Id, CheckError>
+    ensures { Gives (λ id. id) result (vector_named names.now named.now) }
+{
+    match named {
+        Named::Imaginary(_) => Err(wrong_name(alloc, named)?),
+        Named::Declared(spelled) => {
+            let found = found(alloc, names, spelled)?;
+            match found.kind {
+                Kind::Vector => Ok(found.id),
+                _ => Err(wrong_kind(alloc, spelled)?),
+            }
+        }
+    }
+}
+
+/// An index or a vector.
+fn named_end(alloc: Global, names: &Names, named: &Named) -> Result<End, CheckError>
+    ensures { Gives (λ end. end) result (end_named names.now named.now) }
+{
+    match named {
+        Named::Imaginary(_) => Err(wrong_name(alloc, named)?),
+        Named::Declared(spelled) => {
+            let found = found(alloc, names, spelled)?;
+            match found.kind {
+                Kind::Index(_) => Ok(End::Index(found.id)),
+                Kind::Vector => Ok(End::Vector(found.id)),
+                _ => Err(wrong_kind(alloc, spelled)?),
+            }
+        }
+    }
+}
+
+/// A fixed index.
+fn fixed_end(number: Number) -> Result<End, CheckError>
+    ensures { Gives (λ end. end) result (end_fixed number) }
+{
+    if number.value > u128::from(LARGEST_INDEX) {
+        return Err(CheckError::Refused(Cause::NumberRange, number.spot));
+    }
+    Ok(End::Fixed(number.value as u32))
+}
+
+/// An index, a fixed index or a vector.
+pub fn end(alloc: Global, names: &Names, entry: &Entry) -> Result<End, CheckError>
+    ensures { Gives (λ end. end) result (end_written names.now entry.now) }
+{
+    match entry {
+        Entry::Number(number) => fixed_end(*number),
+        Entry::Name(named) => named_end(alloc, names, named),
+    }
+}
+
+/// What stands alone in the parentheses of a vector, where a piece is that.
+pub fn alone_end(alloc: Global, names: &Names, piece: &Piece) -> Result<Option<End>, CheckError>
+    ensures { Gives (λ end. end) result (end_alone names.now (alone_piece piece.now)) }
+{
+    match piece {
+        Piece::Number(Link::First, number, None) => Ok(Some(fixed_end(*number)?)),
+        Piece::Name(Link::First, named, None) => { Ok(Some(named_end(alloc, names, named)?)) }
+        _ => Ok(None),
+    }
+}
+
+/// A function or a vector.
+pub fn head(alloc: Global, names: &Names, named: &Named) -> Result<Head, CheckError>
+    ensures { Gives (λ head. head) result (head_named names.now named.now) }
+{
+    match named {
+        Named::Imaginary(_) => Err(wrong_name(alloc, named)?),
+        Named::Declared(spelled) => {
+            let found = found(alloc, names, spelled)?;
+            match found.kind {
+                Kind::Function => Ok(Head::Function(found.id, false)),
+                Kind::CommutingFunction => Ok(Head::Function(found.id, true)),
+                Kind::Vector => Ok(Head::Vector(found.id)),
+                _ => Err(wrong_kind(alloc, spelled)?),
+            }
+        }
+    }
+}
+
+/// An argument that is a name alone of an index or a vector.
+pub fn lone(names: &Names, named: &Named) -> Option<form_tree::Piece>
+    ensures { IsLone result (lone_named names.now named.now) }
+{
+    let Named::Declared(spelled) = named else {
+        return None;
+    };
+    let id = names.lookup(spelled.name.as_str())?;
+    match names.kind(id) {
+        Kind::Index(_) => Some(form_tree::Piece::Index(Index::Declared(id))),
+        Kind::Vector => Some(form_tree::Piece::Vector(id)),
+        _ => None,
+    }
+}

@@ -1,0 +1,105 @@
+//! Powers and exponents.
+ghost use Rattle.std.specs.Prelude.{◌≡◌, ◌≤◌};
+ghost use Rattle.form_check.specs.Refusal.{Gives};
+ghost use Rattle.form_check.specs.RightSide as definition;
+ghost use Rattle.form_check.specs.Walking as walking;
+
+use crate::CheckError;
+use form_ast::{Link, Power, Sign};
+use form_base::Cause;
+
+/// The largest power of a symbol or a dot product, in size.
+pub const LARGEST_EXPONENT: u32 = 1_000_000_000;
+
+/// The largest power of anything else, in size.
+pub const LARGEST_POWER: u32 = 1_000;
+
+pub fn link_of(link: Link) -> form_tree::Link
+    ensures { result ≡ walking.link_of link }
+{
+    match link {
+        Link::First | Link::Plus => form_tree::Link::Plus,
+        Link::Minus => form_tree::Link::Minus,
+        Link::Times | Link::Over => form_tree::Link::Times,
+    }
+}
+
+pub fn is_over(link: Link) -> bool
+    ensures { result ≡ walking.is_over link }
+{
+    link == Link::Over
+}
+
+/// The size of a power of at most so much: 1 where none is written.
+pub fn size_of(power: Option<Power>, most: u32) -> Result<u32, CheckError>
+    ensures { Gives (λ size. size) result (definition.size_within most power) }
+{
+    let Some(power) = power else {
+        return Ok(1);
+    };
+    if power.number.value > u128::from(most) {
+        return Err(CheckError::Refused(Cause::NumberRange, power.number.spot));
+    }
+    Ok(power.number.value as u32)
+}
+
+fn has_minus(power: Option<Power>) -> bool
+    ensures { result ≡ definition.has_minus power }
+{
+    match power {
+        Some(power) => power.sign == Some(Sign::Minus),
+        None => false,
+    }
+}
+
+fn is_zero(power: Option<Power>) -> bool
+    ensures { result ≡ definition.is_zero power }
+{
+    match power {
+        Some(power) => power.number.value == 0,
+        None => false,
+    }
+}
+
+/// Whether an exponent is below zero, if its size isn't 0: after `/` a power changes its sign.
+fn is_below_zero(is_over: bool, power: Option<Power>) -> bool
+    ensures { result ≡ definition.is_below_zero is_over power }
+{
+    if is_over {
+        !has_minus(power)
+    } else {
+        has_minus(power)
+    }
+}
+
+/// The exponent of a factor with a power of this size.
+pub fn exponent(is_over: bool, power: Option<Power>, size: u32) -> i32
+    requires { size ≤ definition.largest_exponent }
+    ensures { result ≡ definition.exponent is_over power size }
+{
+    let size = size as i32;
+    if is_below_zero(is_over, power) {
+        -size
+    } else {
+        size
+    }
+}
+
+/// The exponent of a number: a 0 with a negative power keeps an exponent below zero after `/` too.
+pub fn number_exponent(value: u128, is_over: bool, power: Option<Power>, size: u32) -> i32
+    requires { size ≤ definition.largest_exponent }
+    ensures { result ≡ definition.number_exponent value is_over power size }
+{
+    if value == 0 && has_minus(power) {
+        -(size as i32)
+    } else {
+        exponent(is_over, power, size)
+    }
+}
+
+/// Whether a factor stands after `/`, or with a negative power.
+pub fn is_inverted(is_over: bool, power: Option<Power>) -> bool
+    ensures { result ≡ definition.is_inverted is_over power }
+{
+    is_over || has_minus(power) && !is_zero(power)
+}

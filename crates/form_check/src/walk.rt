@@ -1,0 +1,665 @@
+//! Going through the pieces of a right side from the front.
+ghost use Rattle.std.specs.Prelude.{◌≡◌, ◌+◌, ◌<◌, ◌≤◌, ◌^◌, ◌++◌, ◌∷◌, [], OnOk, IfOk, is_some};
+ghost use Rattle.form_check.specs.Marks.{stands_in};
+ghost use Rattle.form_check.specs.Refusal.{Gives, error_of};
+ghost use Rattle.form_check.specs.RightSide.{number as number_of, name as name_of, lone as lone_of, linked as linked_factor, linked_index as linked_index_factor, linked_to, largest_power, wrong, spelled_of, by_kind, symbol as symbol_of, size_alone as size_alone_of};
+ghost use Rattle.form_check.specs.Walking as walking;
+ghost use Rattle.form_check.specs.Walking.{at, walk_of, adds, may_name, with_factor, misplaced_to_end, is_single as is_single_at};
+ghost use Rattle.form_tree.specs.Tree as tree;
+
+use crate::CheckError;
+use crate::kinds::{alone_end, end, found, head, lone, misplaced, vector, wrong_delta, wrong_name};
+use crate::powers::{
+    LARGEST_EXPONENT, LARGEST_POWER, exponent, is_inverted, is_over, link_of, number_exponent,
+    size_of,
+};
+use crate::resolved::{End, Found, Head};
+use crate::standing::Standing;
+use form_ast::{Link, Named, Number, Power};
+use form_base::{Cause, Id};
+use form_names::{Kind, Names};
+use form_term::{Component, Index};
+use form_tree::Piece;
+use std::alloc::{AllocError, Global};
+
+/// The largest number, 2^127-1.
+const LARGEST_NUMBER: u128 = 170_141_183_460_469_231_731_687_303_715_884_105_727;
+
+/// Where a walk stands.
+#[derive(Clone, Copy)]
+pub enum Place {
+    /// In a sum.
+    Sum,
+    /// Where an argument of a function may begin.
+    Argument,
+    /// Behind an argument that is an index or a vector alone.
+    Behind,
+    /// In a dot product, behind its first vector.
+    Dot(Link, Id),
+    /// In a `d_`, behind its first argument.
+    Delta(Link, End),
+    /// In the parentheses of a vector, in which one name or one number stands alone.
+    Vector(Link, Id),
+    /// Behind that.
+    Component(Link, Id, End),
+}
+
+/// What was made of the pieces before.
+#[derive(Drop)]
+pub struct Walk {
+    pieces: Vec<Piece>,
+    place: Place,
+    /// In the arguments of how many functions it stands.
+    calls: usize,
+}
+
+/// Two ends as a factor.
+fn linked(link: form_tree::Link, a: End, b: End, size: u32) -> Piece
+    requires { size ≤ largest_power }
+    ensures { result ∷ [] ≡ tree.pieces_of_factor link (linked_factor a b size) }
+{
+    match a {
+        End::Vector(left) => match b {
+            End::Vector(right) => Piece::Dot {
+                link,
+                left,
+                right,
+                power: size as i32,
+            },
+            End::Fixed(value) => component(link, left, Index::Fixed(value), size),
+            End::Index(index) => component(link, left, Index::Declared(index), size),
+        },
+        End::Fixed(value) => linked_index(link, Index::Fixed(value), b, size),
+        End::Index(index) => linked_index(link, Index::Declared(index), b, size),
+    }
+}
+
+fn component(link: form_tree::Link, vector: Id, index: Index, power: u32) -> Piece
+    ensures { result ∷ [] ≡ tree.pieces_of_factor link (tree.component (record { vector = vector; index = index }) power) }
+{
+    Piece::Component {
+        link,
+        component: Component { vector, index },
+        power,
+    }
+}
+
+/// An index and an end as a factor.
+fn linked_index(link: form_tree::Link, index: Index, end: End, power: u32) -> Piece
+    ensures { result ∷ [] ≡ tree.pieces_of_factor link (linked_index_factor index end power) }
+{
+    match end {
+        End::Vector(vector) => component(link, vector, index, power),
+        End::Fixed(value) => Piece::Delta {
+            link,
+            first: index,
+            second: Index::Fixed(value),
+            power,
+        },
+        End::Index(other) => Piece::Delta {
+            link,
+            first: index,
+            second: Index::Declared(other),
+            power,
+        },
+    }
+}
+
+/// Whether an argument ends here.
+fn ends_argument(rest: &[form_ast::Piece]) -> bool
+    ensures { result ≡ walking.ends_argument rest.now }
+{
+    match rest {
+        [first, ..] => matches!(
+            first,
+            form_ast::Piece::Comma | form_ast::Piece::EndOfCall(_)
+        ),
+        [] => false,
+    }
+}
+
+/// Whether the piece is one number or one name, without a sign or a power.
+fn is_alone(piece: &form_ast::Piece) -> bool
+    ensures { result ≡ is_some (walking.alone_piece piece.now) }
+{
+    match piece {
+        form_ast::Piece::Number(Link::First, _, None) => true,
+        form_ast::Piece::Name(Link::First, _, None) => true,
+        _ => false,
+    }
+}
+
+/// Whether arguments begin with one number or one name alone.
+fn begin_alone(rest: &[form_ast::Piece]) -> bool
+    ensures { result ≡ is_some (walking.alone_at rest.now) }
+{
+    match rest {
+        [first, others @ ..] => ends_argument(others) && is_alone(first),
+        [] => false,
+    }
+}
+
+/// Whether no comma parts the arguments that end next.
+#[tactic(auto, unfolding(crate::specs::Walking::is_single))]
+fn is_single(list: &[form_ast::Piece]) -> bool
+    ensures { result ≡ is_single_at 0 list.now }
+{
+    let mut opened: usize = 0;
+    let mut rest = list;
+    while let [piece, others @ ..] = rest {
+        match piece {
+            form_ast::Piece::Call(_, _) => opened += 1,
+            form_ast::Piece::Comma if opened == 0 => return false,
+            form_ast::Piece::EndOfCall(_) if opened == 0 => return true,
+            form_ast::Piece::EndOfCall(_) => opened -= 1,
+            _ => {}
+        }
+        rest = others;
+    }
+    false
+}
+
+/// A refusal of the first name up to the end of arguments, or of the vector whose they are.
+#[tactic(auto, unfolding(crate::specs::Walking::misplaced_to_end))]
+fn misplaced_in(
+    alloc: Global,
+    names: &Names,
+    list: &[form_ast::Piece],
+    owner: &Named,
+) -> Result<CheckError, AllocError>
+    ensures { IfOk result (λ e. e ≡ error_of (misplaced_to_end names.now list.now (wrong (spelled_of owner.now)))) }
+{
+    let mut rest = list;
+    while let [piece, others @ ..] = rest {
+        match piece {
+            form_ast::Piece::Name(_, named, _) => return misplaced(alloc, names, named),
+            form_ast::Piece::Dot(_, named) => return misplaced(alloc, names, named),
+            form_ast::Piece::Call(_, named) => return misplaced(alloc, names, named),
+            form_ast::Piece::Delta(_, spot, _) => return wrong_delta(alloc, *spot),
+            form_ast::Piece::EndOfCall(_) => break,
+            _ => {}
+        }
+        rest = others;
+    }
+    wrong_name(alloc, owner)
+}
+
+/// The power behind a `)` that ends arguments.
+fn ended_with(piece: &form_ast::Piece) -> Option<Option<Power>>
+    ensures { result ≡ walking.ended_with piece.now }
+{
+    match piece {
+        form_ast::Piece::EndOfCall(power) => Some(*power),
+        _ => None,
+    }
+}
+
+/// An argument that is a name alone of an index or a vector.
+fn lone_argument(names: &Names, piece: &form_ast::Piece, rest: &[form_ast::Piece]) -> Option<Piece>
+    ensures { walking.IsLone result (lone_of names.now (walking.alone_before rest.now piece.now)) }
+{
+    if !ends_argument(rest) {
+        return None;
+    }
+    match piece {
+        form_ast::Piece::Name(Link::First, named, None) => lone(names, named),
+        _ => None,
+    }
+}
+
+impl Walk {
+    pub fn new(pieces: Vec<Piece>) -> Walk
+        ensures { walk_of result ≡ at pieces.items Place.Sum 0 }
+    {
+        Walk {
+            pieces,
+            place: Place::Sum,
+            calls: 0,
+        }
+    }
+
+    pub fn into_pieces(self) -> Vec<Piece>
+        ensures { result.items ≡ (walk_of self).pieces }
+    {
+        let Walk { pieces, .. } = self;
+        pieces
+    }
+
+    /// Adds the last piece of a factor.
+    fn add(&mut self, piece: Piece) -> Result<(), AllocError>
+        ensures made { OnOk result (walk_of self.new ≡ at (self.old.pieces.items ++ piece ∷ []) Place.Sum self.old.calls) }
+        ensures calls { OnOk result (self.new.calls ≡ self.old.calls) }
+    {
+        self.pieces.extend_from_slice(&[piece])?;
+        self.place = Place::Sum;
+        Ok(())
+    }
+
+    /// A whole number.
+    fn number(&mut self, link: Link, number: Number, power: Option<Power>) -> Result<(), CheckError>
+        ensures gives { Gives (λ _. walk_of self.new) result (adds (walk_of self.old) link (number_of (walking.is_over link) number power)) }
+        ensures calls { OnOk result (self.new.calls ≡ self.old.calls) }
+    {
+        if number.value > LARGEST_NUMBER {
+            return Err(CheckError::Refused(Cause::NumberRange, number.spot));
+        }
+        let size = size_of(power, LARGEST_POWER)?;
+        self.add(Piece::Number {
+            link: link_of(link),
+            value: number.value,
+            power: number_exponent(number.value, is_over(link), power, size),
+        })?;
+        Ok(())
+    }
+
+    fn symbol(&mut self, link: Link, symbol: Id, power: Option<Power>) -> Result<(), CheckError>
+        ensures gives { Gives (λ _. walk_of self.new) result (adds (walk_of self.old) link (symbol_of (walking.is_over link) symbol power)) }
+        ensures calls { OnOk result (self.new.calls ≡ self.old.calls) }
+    {
+        let size = size_of(power, LARGEST_EXPONENT)?;
+        self.add(Piece::Symbol {
+            link: link_of(link),
+            symbol,
+            power: exponent(is_over(link), power, size),
+        })?;
+        Ok(())
+    }
+
+    /// What isn't inverted: the size of its power.
+    fn size_alone(
+        &self,
+        alloc: Global,
+        link: Link,
+        named: &Named,
+        power: Option<Power>,
+    ) -> Result<u32, CheckError>
+        ensures { Gives (λ size. size) result (size_alone_of (walking.is_over link) power (spelled_of named.now)) }
+    {
+        if is_inverted(is_over(link), power) {
+            return Err(wrong_name(alloc, named)?);
+        }
+        size_of(power, LARGEST_POWER)
+    }
+
+    /// A function without arguments.
+    fn function(
+        &mut self,
+        link: Link,
+        function: Id,
+        is_commuting: bool,
+        size: u32,
+    ) -> Result<(), AllocError>
+        ensures made { OnOk result (walk_of self.new ≡ with_factor (walk_of self.old) link (tree.function function is_commuting tree.empty size)) }
+        ensures calls { OnOk result (self.new.calls ≡ self.old.calls) }
+    {
+        self.pieces.extend_from_slice(&[Piece::Function {
+            link: link_of(link),
+            function,
+            is_commuting,
+        }])?;
+        self.add(Piece::EndOfFunction { power: size })
+    }
+
+    /// A name alone.
+    fn name(
+        &mut self,
+        alloc: Global,
+        names: &Names,
+        standing: &Standing,
+        link: Link,
+        named: &Named,
+        power: Option<Power>,
+    ) -> Result<(), CheckError>
+        ensures gives { Gives (λ _. walk_of self.new) result (adds (walk_of self.old) link (name_of names.now (may_name self.old.calls (stands_in standing.now)) (walking.is_over link) named.now power)) }
+        ensures calls { OnOk result (self.new.calls ≡ self.old.calls) }
+    {
+        let Named::Declared(spelled) = named else {
+            let power = self.size_alone(alloc, link, named, power)?;
+            self.add(Piece::Imaginary {
+                link: link_of(link),
+                power,
+            })?;
+            return Ok(());
+        };
+        let found = found(alloc, names, spelled)?;
+        self.declared(alloc, standing, link, named, power, found)
+    }
+
+    /// A declared name alone.
+    fn declared(
+        &mut self,
+        alloc: Global,
+        standing: &Standing,
+        link: Link,
+        named: &Named,
+        power: Option<Power>,
+        found: Found,
+    ) -> Result<(), CheckError>
+        ensures gives { Gives (λ _. walk_of self.new) result (adds (walk_of self.old) link (by_kind (may_name self.old.calls (stands_in standing.now)) (walking.is_over link) (spelled_of named.now) power found.id found.kind)) }
+        ensures calls { OnOk result (self.new.calls ≡ self.old.calls) }
+    {
+        match found.kind {
+            Kind::Symbol => self.symbol(link, found.id, power),
+            Kind::Function => {
+                let size = self.size_alone(alloc, link, named, power)?;
+                self.function(link, found.id, false, size)?;
+                Ok(())
+            }
+            Kind::CommutingFunction => {
+                let size = self.size_alone(alloc, link, named, power)?;
+                self.function(link, found.id, true, size)?;
+                Ok(())
+            }
+            Kind::Expression if self.calls == 0 && standing.stands(found.id) => {
+                let power = self.size_alone(alloc, link, named, power)?;
+                self.add(Piece::Stored {
+                    link: link_of(link),
+                    expression: found.id,
+                    power,
+                })?;
+                Ok(())
+            }
+            Kind::Vector | Kind::Index(_) | Kind::Expression => Err(wrong_name(alloc, named)?),
+        }
+    }
+
+    /// Two ends.
+    fn link_ends(
+        &mut self,
+        link: Link,
+        a: End,
+        b: End,
+        power: Option<Power>,
+    ) -> Result<(), CheckError>
+        ensures gives { Gives (λ _. walk_of self.new) result (adds (walk_of self.old) link (linked_to a b power)) }
+        ensures calls { OnOk result (self.new.calls ≡ self.old.calls) }
+    {
+        let size = size_of(power, LARGEST_POWER)?;
+        self.add(linked(link_of(link), a, b, size))?;
+        Ok(())
+    }
+
+    /// A dot product ends.
+    fn end_dot(
+        &mut self,
+        alloc: Global,
+        names: &Names,
+        link: Link,
+        left: Id,
+        piece: &form_ast::Piece,
+    ) -> Result<(), CheckError>
+        ensures gives { Gives (λ _. walk_of self.new) result (walking.dot_ended names.now (walk_of self.old) link left piece.now) }
+        ensures calls { OnOk result (self.new.calls ≡ self.old.calls) }
+    {
+        let form_ast::Piece::EndOfDot(named, power) = piece else {
+            return Ok(());
+        };
+        let right = vector(alloc, names, named)?;
+        let size = size_of(*power, LARGEST_EXPONENT)?;
+        self.add(Piece::Dot {
+            link: link_of(link),
+            left,
+            right,
+            power: exponent(is_over(link), *power, size),
+        })?;
+        Ok(())
+    }
+
+    /// A `d_` ends.
+    fn end_delta(
+        &mut self,
+        alloc: Global,
+        names: &Names,
+        link: Link,
+        first: End,
+        piece: &form_ast::Piece,
+    ) -> Result<(), CheckError>
+        ensures gives { Gives (λ _. walk_of self.new) result (walking.delta_ended names.now (walk_of self.old) link first piece.now) }
+        ensures calls { OnOk result (self.new.calls ≡ self.old.calls) }
+    {
+        let form_ast::Piece::EndOfDelta(entry, power) = piece else {
+            return Ok(());
+        };
+        let second = end(alloc, names, entry)?;
+        self.link_ends(link, first, second, *power)
+    }
+
+    /// The parentheses of a vector end.
+    fn end_component(
+        &mut self,
+        link: Link,
+        vector: Id,
+        index: End,
+        piece: &form_ast::Piece,
+    ) -> Result<(), CheckError>
+        ensures gives { Gives (λ _. walk_of self.new) result (walking.component_ended (walk_of self.old) link vector index piece.now) }
+        ensures calls { OnOk result (self.new.calls ≡ self.old.calls) }
+    {
+        match piece {
+            form_ast::Piece::EndOfCall(power) => {
+                self.link_ends(link, End::Vector(vector), index, *power)
+            }
+            _ => Ok(()),
+        }
+    }
+
+    /// What stands in the parentheses of a vector.
+    fn component(
+        &mut self,
+        alloc: Global,
+        names: &Names,
+        link: Link,
+        vector: Id,
+        piece: &form_ast::Piece,
+    ) -> Result<(), CheckError>
+        ensures gives { Gives (λ _. walk_of self.new) result (walking.component_taken names.now (walk_of self.old) link vector piece.now) }
+        ensures calls { OnOk result (self.new.calls ≡ self.old.calls) }
+    {
+        if let Some(end) = alone_end(alloc, names, piece)? {
+            self.place = Place::Component(link, vector, end);
+        }
+        Ok(())
+    }
+
+    /// A name before parentheses.
+    fn call(
+        &mut self,
+        alloc: Global,
+        names: &Names,
+        link: Link,
+        named: &Named,
+        rest: &[form_ast::Piece],
+    ) -> Result<(), CheckError>
+        requires { self.old.calls + 1 < 2 ^ 64 }
+        ensures gives { Gives (λ _. walk_of self.new) result (walking.called names.now (walk_of self.old) link named.now rest.now) }
+        ensures calls { OnOk result (self.new.calls ≤ self.old.calls + 1) }
+    {
+        match head(alloc, names, named)? {
+            Head::Function(function, is_commuting) => {
+                self.pieces.extend_from_slice(&[Piece::Function {
+                    link: link_of(link),
+                    function,
+                    is_commuting,
+                }])?;
+                self.place = Place::Argument;
+                self.calls += 1;
+                Ok(())
+            }
+            Head::Vector(vector) => {
+                if !is_single(rest) {
+                    return Err(wrong_name(alloc, named)?);
+                }
+                if !begin_alone(rest) {
+                    return Err(misplaced_in(alloc, names, rest, named)?);
+                }
+                self.place = Place::Vector(link, vector);
+                Ok(())
+            }
+        }
+    }
+
+    /// The arguments of a function end.
+    fn end_call(&mut self, power: Option<Power>) -> Result<(), CheckError>
+        ensures gives { Gives (λ _. walk_of self.new) result (walking.call_ended (walk_of self.old) power) }
+        ensures calls { OnOk result (self.new.calls ≤ self.old.calls) }
+    {
+        let power = size_of(power, LARGEST_POWER)?;
+        self.add(Piece::EndOfFunction { power })?;
+        self.calls = self.calls.saturating_sub(1);
+        Ok(())
+    }
+
+    /// A piece of a sum.
+    fn in_sum(
+        &mut self,
+        alloc: Global,
+        names: &Names,
+        standing: &Standing,
+        piece: &form_ast::Piece,
+        rest: &[form_ast::Piece],
+    ) -> Result<(), CheckError>
+        requires { self.old.calls + 1 < 2 ^ 64 }
+        ensures gives { Gives (λ _. walk_of self.new) result (walking.in_sum names.now (stands_in standing.now) (walk_of self.old) piece.now rest.now) }
+        ensures calls { OnOk result (self.new.calls ≤ self.old.calls + 1) }
+    {
+        match piece {
+            form_ast::Piece::Number(link, number, power) => self.number(*link, *number, *power),
+            form_ast::Piece::Name(link, named, power) => {
+                self.name(alloc, names, standing, *link, named, *power)
+            }
+            form_ast::Piece::Dot(link, named) => {
+                self.place = Place::Dot(*link, vector(alloc, names, named)?);
+                Ok(())
+            }
+            form_ast::Piece::Delta(link, _, entry) => {
+                self.place = Place::Delta(*link, end(alloc, names, entry)?);
+                Ok(())
+            }
+            form_ast::Piece::Call(link, named) => self.call(alloc, names, *link, named, rest),
+            form_ast::Piece::Comma => {
+                self.pieces.extend_from_slice(&[Piece::EndOfArgument])?;
+                self.place = Place::Argument;
+                Ok(())
+            }
+            form_ast::Piece::EndOfCall(power) => {
+                self.pieces.extend_from_slice(&[Piece::EndOfArgument])?;
+                self.end_call(*power)
+            }
+            form_ast::Piece::Open(link) => {
+                self.add(Piece::Open {
+                    link: link_of(*link),
+                })?;
+                Ok(())
+            }
+            form_ast::Piece::Close(power) => {
+                let power = size_of(*power, LARGEST_POWER)?;
+                self.add(Piece::Close { power })?;
+                Ok(())
+            }
+            form_ast::Piece::EndOfDot(_, _) | form_ast::Piece::EndOfDelta(_, _) => Ok(()),
+        }
+    }
+
+    /// A piece where an argument may begin.
+    fn in_arguments(
+        &mut self,
+        alloc: Global,
+        names: &Names,
+        standing: &Standing,
+        piece: &form_ast::Piece,
+        rest: &[form_ast::Piece],
+    ) -> Result<(), CheckError>
+        requires { self.old.calls + 1 < 2 ^ 64 }
+        ensures gives { Gives (λ _. walk_of self.new) result (walking.in_arguments names.now (stands_in standing.now) (walk_of self.old) piece.now rest.now) }
+        ensures calls { OnOk result (self.new.calls ≤ self.old.calls + 1) }
+    {
+        match ended_with(piece) {
+            Some(power) => self.end_call(power),
+            None => self.begin_argument(alloc, names, standing, piece, rest),
+        }
+    }
+
+    /// A piece where an argument begins.
+    fn begin_argument(
+        &mut self,
+        alloc: Global,
+        names: &Names,
+        standing: &Standing,
+        piece: &form_ast::Piece,
+        rest: &[form_ast::Piece],
+    ) -> Result<(), CheckError>
+        requires { self.old.calls + 1 < 2 ^ 64 }
+        ensures gives { Gives (λ _. walk_of self.new) result (walking.argument_begun names.now (stands_in standing.now) (walk_of self.old) piece.now rest.now (lone_of names.now (walking.alone_before rest.now piece.now))) }
+        ensures calls { OnOk result (self.new.calls ≤ self.old.calls + 1) }
+    {
+        match lone_argument(names, piece, rest) {
+            Some(argument) => {
+                self.pieces.extend_from_slice(&[argument])?;
+                self.place = Place::Behind;
+                Ok(())
+            }
+            None => {
+                self.add(Piece::Argument)?;
+                self.in_sum(alloc, names, standing, piece, rest)
+            }
+        }
+    }
+
+    /// A piece behind an argument that is an index or a vector alone.
+    fn behind(&mut self, piece: &form_ast::Piece) -> Result<(), CheckError>
+        ensures gives { Gives (λ _. walk_of self.new) result (walking.behind_argument (walk_of self.old) piece.now) }
+        ensures calls { OnOk result (self.new.calls ≤ self.old.calls) }
+    {
+        match piece {
+            form_ast::Piece::Comma => {
+                self.place = Place::Argument;
+                Ok(())
+            }
+            form_ast::Piece::EndOfCall(power) => self.end_call(*power),
+            _ => Ok(()),
+        }
+    }
+
+    /// Goes one piece further, behind which these are.
+    pub fn take(
+        &mut self,
+        alloc: Global,
+        names: &Names,
+        standing: &Standing,
+        piece: &form_ast::Piece,
+        rest: &[form_ast::Piece],
+    ) -> Result<(), CheckError>
+        requires { self.old.calls + 1 < 2 ^ 64 }
+        ensures gives { Gives (λ _. walk_of self.new) result (walking.taken names.now (stands_in standing.now) (walk_of self.old) piece.now rest.now) }
+        ensures calls { OnOk result (self.new.calls ≤ self.old.calls + 1) }
+    {
+        self.take_at(self.place, alloc, names, standing, piece, rest)
+    }
+
+    /// The same where it stands there.
+    fn take_at(
+        &mut self,
+        place: Place,
+        alloc: Global,
+        names: &Names,
+        standing: &Standing,
+        piece: &form_ast::Piece,
+        rest: &[form_ast::Piece],
+    ) -> Result<(), CheckError>
+        requires { self.old.calls + 1 < 2 ^ 64 }
+        ensures gives { Gives (λ _. walk_of self.new) result (walking.taken_at names.now (stands_in standing.now) (walk_of self.old) piece.now rest.now place) }
+        ensures calls { OnOk result (self.new.calls ≤ self.old.calls + 1) }
+    {
+        match place {
+            Place::Sum => self.in_sum(alloc, names, standing, piece, rest),
+            Place::Argument => self.in_arguments(alloc, names, standing, piece, rest),
+            Place::Behind => self.behind(piece),
+            Place::Dot(link, left) => self.end_dot(alloc, names, link, left, piece),
+            Place::Delta(link, first) => self.end_delta(alloc, names, link, first, piece),
+            Place::Vector(link, vector) => self.component(alloc, names, link, vector, piece),
+            Place::Component(link, vector, index) => {
+                self.end_component(link, vector, index, piece)
+            }
+        }
+    }
+}

@@ -1,0 +1,34 @@
+-- Factors that are one piece.
+use Rattle.std.specs.Prelude.{ℕ, List, Option, Some, None, option_map}
+use Rattle.form_tree.specs.declared.tree.Piece.{Piece}
+use Rattle.form_tree.specs.declared.tree.Piece.TheVariants as pieces
+use Rattle.form_expand.specs.declared.stored.Stored.{Stored}
+use Rattle.form_expand.specs.declared.whole.Whole.{Whole}
+use Rattle.form_expand.specs.Kept.{listing}
+use Rattle.form_expand.specs.Listing.{Listing}
+use Rattle.form_expand.specs.Numbers.{number_list, symbol_list}
+use Rattle.form_expand.specs.Singles.{imaginary_list, dot_list, component_list, delta_list}
+use Rattle.form_expand.specs.Stored.{terms_of}
+
+-- the list of such a factor, and its power
+abbrev pub list_of_piece : List Stored → Piece → Option (Listing × ℕ)
+list_of_piece all (pieces.Number link value power) = Some (number_list value power, 1)
+list_of_piece all (pieces.Symbol link symbol power) = Some (symbol_list symbol power, 1)
+list_of_piece all (pieces.Stored link expression power) = Some (record { terms = terms_of all expression; end = None }, power)
+list_of_piece all (pieces.Imaginary link power) = Some (imaginary_list, power)
+list_of_piece all (pieces.Dot link p q power) = Some (dot_list p q power, 1)
+list_of_piece all (pieces.Component link c power) = Some (component_list c, power)
+list_of_piece all (pieces.Delta link i j power) = Some (delta_list i j, power)
+list_of_piece all (pieces.Function link f is_commuting) = None
+list_of_piece all (pieces.EndOfFunction power) = None
+list_of_piece all (pieces.Index i) = None
+list_of_piece all (pieces.Vector v) = None
+list_of_piece all pieces.Argument = None
+list_of_piece all pieces.EndOfArgument = None
+list_of_piece all (pieces.Open link) = None
+list_of_piece all (pieces.Close power) = None
+
+-- what was found, as lists
+abbrev pub listed_alone : Option (Whole × ℕ) → Option (Listing × ℕ)
+listed_alone None = None
+listed_alone (Some w) = Some (listing w.0, w.1)

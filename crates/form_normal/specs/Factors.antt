@@ -1,0 +1,32 @@
+-- What the factors of a product have.
+use Rattle.std.specs.Prelude.{◌≡◌, ◌<◌, ◌≤◌, ◌^◌, nat_abs, false, List, All}
+use Rattle.std.specs.List.Sorted.{IsStrictlySortedBy}
+use Rattle.std.specs.Ordering.{is_gt}
+use Rattle.form_term.specs.declared.power.Power.{Power}
+use Rattle.form_term.specs.Term.{Others, RiseFrom, RisesBy, IsCall, pair_order, index_order, component_order, delta_order, call_order, depth_of_others, size_of_others, largest_exponent, largest_depth}
+
+abbrev pub IsPresent : Power → Type 0
+IsPresent p = 0 < nat_abs p.exponent
+
+abbrev pub IsInRange : Power → Type 0
+IsInRange p = nat_abs p.exponent ≤ largest_exponent
+
+-- what holds of the powers of symbols in a factor
+pub record IsProductive (ps : List Power) : Type 0 where
+  pub rising : RiseFrom 0 ps
+  pub present : All IsPresent ps
+  pub in_range : All IsInRange ps
+
+-- what holds of the other factors of a product, whose exponents may be past their limits
+pub record AreJoined (o : Others) : Type 0 where
+  pub dots_rise : IsStrictlySortedBy pair_order o.dots
+  pub dots_present : All (λ d. 0 < nat_abs d.exponent) o.dots
+  pub dots_turned : All (λ d. d.left ≤ d.right) o.dots
+  pub components_rise : RisesBy component_order o.components
+  pub deltas_rise : RisesBy delta_order o.deltas
+  pub deltas_turned : All (λ d. is_gt (index_order d.first d.second) ≡ false) o.deltas
+  pub functions_rise : RisesBy call_order o.functions
+  pub functions : All IsCall o.functions
+  pub word : All IsCall o.word
+  pub shallow : depth_of_others o < largest_depth
+  pub small : size_of_others o < 2 ^ 32

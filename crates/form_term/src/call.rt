@@ -1,0 +1,172 @@
+ghost use Rattle.std.specs.Prelude.{◌≡◌, IfOk};
+ghost use Rattle.form_term.specs.Term.{IsCall, size_of_call};
+ghost use Rattle.form_term.specs.Pieces.{deepest};
+
+use crate::Piece;
+use form_base::Id;
+use std::alloc::{AllocError, Global};
+use std::cmp::Ordering;
+use std::hash::{Hash, Hasher};
+use std::marker::Model;
+use std::sync::ArcSlice;
+
+/// A function with its arguments, kept as their pieces. Copies share the arguments, and take no memory.
+#[derive(Debug, Drop)]
+pub struct Call {
+    function: Id,
+    pieces: ArcSlice<Piece>,
+}
+
+impl Model for Call {
+    ghost use Rattle.form_term.specs.Term as terms;
+    ghost use Rattle.form_term.specs.Calls.{call};
+    ghost use Rattle.std.specs.Arc.{arc_slice_items};
+
+    ghost Value = { terms.Call };
+
+    ghost view = { λ c. call c.function (arc_slice_items c.pieces) };
+
+    ghost invariant = { λ c. terms.IsCall (call c.function (arc_slice_items c.pieces)) };
+}
+
+impl Call {
+    ghost use Rattle.form_term.specs.Calls.{call};
+
+    /// A function whose arguments have these pieces.
+    pub(crate) fn from_pieces(function: Id, pieces: Vec<Piece>) -> Result<Call, AllocError>
+        requires { IsCall (call function pieces.items) }
+        ensures { IfOk result (λ c. c ≡ call function pieces.items) }
+    {
+        Ok(Call {
+            function,
+            pieces: ArcSlice::from_vec(pieces)?,
+        })
+    }
+
+    pub fn function(&self) -> Id
+        ensures { result ≡ self.now.function }
+    {
+        self.function
+    }
+
+    /// The pieces of the arguments, from the left.
+    pub fn pieces(&self) -> &[Piece]
+        ensures pieces { result.now ≡ self.now.pieces }
+        ensures lawful { IsCall self.now }
+    {
+        self.pieces.as_slice()
+    }
+
+    /// How many factors it counts as: one for itself, one for each argument, and for each term in an argument one and
+    /// its size.
+    pub fn size(&self) -> usize
+        ensures { result ≡ size_of_call self.now }
+    {
+        1 + self.pieces().iter().filter(|piece| piece.counts()).count()
+    }
+
+    /// The depth of the deepest term in an argument, 0 without one.
+    pub fn depth(&self) -> usize
+        ensures { result ≡ deepest 0 self.now.pieces }
+    {
+        let mut level: usize = 0;
+        let mut depth: usize = 0;
+        for piece in self.pieces() {
+            match piece {
+                Piece::Sum => level += 1,
+                Piece::EndOfSum => level = level.saturating_sub(1),
+                Piece::EndOfTerm(_) => depth = depth.max(level),
+                _ => {}
+            }
+        }
+        depth
+    }
+}
+
+impl Clone for Call {
+    ghost use Rattle.std.specs.Prelude.{◌≡◌};
+
+    ghost is_clone = { λ c d. d ≡ c };
+
+    fn clone(&self) -> Result<Call, AllocError> {
+        Ok(Call {
+            function: self.function,
+            pieces: self.pieces.clone()?,
+        })
+    }
+}
+
+impl PartialEq for Call {
+    ghost use Rattle.std.specs.Ordering.{eq_by_cmp};
+    ghost use Rattle.std.specs.Cmp.{partial_equiv_from_equiv};
+    ghost use Rattle.std.proofs.lemmas.Cmp.{eq_by_cmp_equiv};
+    ghost use Rattle.form_term.specs.Term.{call_order};
+    ghost use Rattle.form_term.specs.TermLaws.{call_order_total};
+
+    ghost eq = { eq_by_cmp call_order };
+
+    ghost laws = { partial_equiv_from_equiv (eq_by_cmp_equiv call_order_total) };
+
+    fn eq(&self, other: &Call) -> bool {
+        self.cmp(other) == Ordering::Equal
+    }
+}
+
+impl Eq for Call {
+    ghost use Rattle.std.proofs.lemmas.Cmp.{eq_by_cmp_equiv};
+    ghost use Rattle.form_term.specs.TermLaws.{call_order_total};
+
+    ghost laws = { eq_by_cmp_equiv call_order_total };
+}
+
+impl PartialOrd for Call {
+    ghost use Rattle.std.specs.Prelude.{refl};
+    ghost use Rattle.std.specs.Ordering.{as_partial_cmp};
+    ghost use Rattle.std.specs.Cmp.{partial_order_from_agreeing_total};
+    ghost use Rattle.form_term.specs.Term.{call_order};
+    ghost use Rattle.form_term.specs.TermLaws.{call_order_total};
+
+    ghost partial_cmp = { as_partial_cmp call_order };
+
+    ghost laws = { partial_order_from_agreeing_total call_order call_order_total (λ c d. refl) (λ c d. refl) };
+
+    fn partial_cmp(&self, other: &Call) -> Option<Ordering> {
+        Some(self.cmp(other))
+    }
+}
+
+impl Ord for Call {
+    ghost use Rattle.std.specs.Prelude.{refl};
+    ghost use Rattle.form_term.specs.Term.{call_order};
+    ghost use Rattle.form_term.specs.TermLaws.{call_order_total};
+
+    ghost cmp = { call_order };
+
+    ghost total = { call_order_total };
+
+    ghost matches_partial_cmp = { λ c d. refl };
+
+    ghost matches_eq = { λ c d. refl };
+
+    fn cmp(&self, other: &Call) -> Ordering {
+        match self.function.cmp(&other.function) {
+            Ordering::Equal => self.pieces().cmp(&other.pieces()),
+            ordering => ordering,
+        }
+    }
+}
+
+impl Hash for Call {
+    ghost use Rattle.std.specs.Prelude.{◌++◌};
+    ghost use Rattle.std.specs.Hash as fed;
+    ghost use Rattle.form_term.specs.TermLaws.{calls_alike};
+
+    ghost hash_input = { λ c. ⟦<Id as Hash>⟧.hash_input c.function ++ fed.slice ⟦<Piece as Hash>⟧.hash_input c.pieces };
+
+    ghost respects_eq = { calls_alike (λ c. ⟦<Id as Hash>⟧.hash_input c.function ++ fed.slice ⟦<Piece as Hash>⟧.hash_input c.pieces) };
+
+    fn hash<H: Hasher>(&self, state: &mut H) {
+        self.function.hash(state);
+        self.pieces().hash(state);
+    }
+}

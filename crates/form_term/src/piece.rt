@@ -1,0 +1,83 @@
+use crate::{Component, Delta, DotPower, Index, Power};
+use form_base::Id;
+use std::cmp::Reverse;
+
+/// The coefficient of a term inside an argument, in lowest terms.
+#[derive(Clone, Copy, Debug, PartialEq, Eq, PartialOrd, Ord, Hash)]
+pub struct Coefficient {
+    pub numerator: i128,
+    pub denominator: u128,
+}
+
+/// A piece of a function's arguments. They are kept flat, with marks where a sum, one of its terms and an inner
+/// function's arguments end, so that arguments of any depth are compared, copied and dropped without recursion.
+///
+/// The order of the variants is that of terms: where two lists of pieces part, the lower term goes on with the lower
+/// piece. A negative power is below the end of a term, as the symbol's exponent is 0 there, and a positive one is above
+/// it; so is each other factor, since of two lists of factors a prefix comes first. A positive power of an earlier
+/// symbol is above one of a later symbol.
+#[derive(Clone, Copy, Debug, PartialEq, Eq, PartialOrd, Ord, Hash)]
+pub enum Piece {
+    /// The arguments of an inner function end.
+    EndOfArguments,
+    /// A sum as an argument ends.
+    EndOfSum,
+    /// A symbol with a negative exponent.
+    Negative(Power),
+    NegativeDot(DotPower),
+    /// A term of a sum ends, whose coefficient this is.
+    EndOfTerm(Coefficient),
+    /// A non-commuting function, whose arguments follow.
+    NonCommuting(Id),
+    /// A commuting function, whose arguments follow.
+    Function(Id),
+    Delta(Delta),
+    Component(Component),
+    /// A dot product with a positive exponent.
+    PositiveDot(Reverse<Id>, Reverse<Id>, i32),
+    /// A symbol with a positive exponent.
+    Positive(Reverse<Id>, i32),
+    /// `i_`.
+    Imaginary,
+    /// An argument that is an index alone.
+    Index(Index),
+    /// An argument that is a vector alone.
+    Vector(Id),
+    /// An argument that is an expression begins; its terms follow.
+    Sum,
+}
+
+impl Piece {
+    ghost use Rattle.std.specs.Prelude.{◌≡◌};
+    ghost use Rattle.form_term.specs.Pieces.{piece_of_power, piece_of_dot, counts};
+
+    pub fn of_power(power: Power) -> Piece
+        ensures { result ≡ piece_of_power power }
+    {
+        if power.exponent < 0 {
+            Piece::Negative(power)
+        } else {
+            Piece::Positive(Reverse(power.symbol), power.exponent)
+        }
+    }
+
+    pub fn of_dot(dot: DotPower) -> Piece
+        ensures { result ≡ piece_of_dot dot }
+    {
+        if dot.exponent < 0 {
+            Piece::NegativeDot(dot)
+        } else {
+            Piece::PositiveDot(Reverse(dot.left), Reverse(dot.right), dot.exponent)
+        }
+    }
+
+    /// Whether it counts as a factor, an argument or a term of an argument.
+    pub fn counts(&self) -> bool
+        ensures { result ≡ counts self.now }
+    {
+        !matches!(
+            self,
+            Piece::EndOfArguments | Piece::EndOfSum | Piece::Imaginary
+        )
+    }
+}
