@@ -7,11 +7,12 @@ use Rattle.form_ast.specs.declared.expr.Sign.TheVariants.{Plus, Minus}
 use Rattle.form_ast.specs.declared.expr.Link.{Link}
 use Rattle.form_ast.specs.declared.expr.Link.TheVariants as links
 use Rattle.form_ast.specs.declared.expr.Named.{Named}
+use Rattle.form_ast.specs.declared.expr.Entry.TheVariants as entries
 use Rattle.form_ast.specs.declared.expr.Power.{Power}
 use Rattle.form_ast.specs.declared.expr.Piece.{Piece}
 use Rattle.form_ast.specs.declared.expr.Piece.TheVariants as pieces
-use Rattle.form_ast.specs.Building.{Lead, start, after, Begun, nothing, begun, Opened, in_parenthesis, in_call, Frame, Building, added, with_argument, build, tree_of}
-use Rattle.form_ast.specs.Syntax.{Sum, first, more, Product, one, times, over, Factor, factor, number, name, dot, delta, empty_call, call, parenthesis, Arguments, argument, further, link_of, first_link, pieces_of_sum, pieces_of_product, pieces_of_factor, pieces_of_arguments}
+use Rattle.form_ast.specs.Building.{Lead, start, after, Begun, nothing, begun, Opened, in_parenthesis, in_call, Frame, Building, added, raised, with_argument, build, tree_of}
+use Rattle.form_ast.specs.Syntax.{Sum, first, more, Product, one, times, over, Factor, factor, Base, number, name, dot, delta, empty_call, call, parenthesis, Arguments, argument, further, link_of, first_link, piece_of_power, pieces_of_sum, pieces_of_product, pieces_of_factor, pieces_of_base, pieces_of_arguments}
 
 abbrev at : List Frame → Begun → Building
 at around inner = record { around = around; inner = inner }
@@ -38,11 +39,11 @@ begins_more (more s o p) Minus f = refl
 abbrev frame : Begun → Link → Opened → Frame
 frame outer link opened = record { outer = outer; link = link; opened = opened }
 
-closed_up : (around : List Frame) (inner : Begun) (link : Link) (s : Sum) (power : Option Power) (rest : List Piece)
-    → build (at (frame inner link in_parenthesis ∷ around) (begun_of s)) (pieces.Close power ∷ rest) ≡ build (at around (added inner link (factor (parenthesis s) power))) rest
+closed_up : (around : List Frame) (inner : Begun) (link : Link) (s : Sum) (rest : List Piece)
+    → build (at (frame inner link in_parenthesis ∷ around) (begun_of s)) (pieces.Close ∷ rest) ≡ build (at around (added inner link (factor (parenthesis s) None))) rest
 unfolding build
-closed_up around inner link (first o p) power rest = refl
-closed_up around inner link (more s o p) power rest = refl
+closed_up around inner link (first o p) rest = refl
+closed_up around inner link (more s o p) rest = refl
 
 -- the arguments that are complete before the last one, and this
 abbrev before_last : Arguments → Option Arguments
@@ -57,17 +58,30 @@ with_last : (args : Arguments) → with_argument (before_last args) (last_of arg
 with_last (argument s) = refl
 with_last (further args s) = refl
 
-call_closed : (around : List Frame) (inner : Begun) (link : Link) (n : Named) (before : Option Arguments) (s : Sum) (power : Option Power) (rest : List Piece)
-    → build (at (frame inner link (in_call n before) ∷ around) (begun_of s)) (pieces.EndOfCall power ∷ rest) ≡ build (at around (added inner link (factor (call n (with_argument before s)) power))) rest
+call_closed : (around : List Frame) (inner : Begun) (link : Link) (n : Named) (before : Option Arguments) (s : Sum) (rest : List Piece)
+    → build (at (frame inner link (in_call n before) ∷ around) (begun_of s)) (pieces.EndOfCall ∷ rest) ≡ build (at around (added inner link (factor (call n (with_argument before s)) None))) rest
 unfolding build
-call_closed around inner link n before (first o p) power rest = refl
-call_closed around inner link n before (more s o p) power rest = refl
+call_closed around inner link n before (first o p) rest = refl
+call_closed around inner link n before (more s o p) rest = refl
 
 parted_at : (around : List Frame) (inner : Begun) (link : Link) (n : Named) (before : Option Arguments) (s : Sum) (rest : List Piece)
     → build (at (frame inner link (in_call n before) ∷ around) (begun_of s)) (pieces.Comma ∷ rest) ≡ build (at (frame inner link (in_call n (Some (with_argument before s))) ∷ around) nothing) rest
 unfolding build
 parted_at around inner link n before (first o p) rest = refl
 parted_at around inner link n before (more s o p) rest = refl
+
+-- a power behind a factor is the factor's
+raised_added : (inner : Begun) (link : Link) (b : Base) (p : Power) → raised (added inner link (factor b None)) p ≡ added inner link (factor b (Some p))
+raised_added nothing links.First b p = refl
+raised_added nothing links.Plus b p = refl
+raised_added nothing links.Minus b p = refl
+raised_added nothing links.Times b p = refl
+raised_added nothing links.Over b p = refl
+raised_added (begun l r) links.First b p = refl
+raised_added (begun l r) links.Plus b p = refl
+raised_added (begun l r) links.Minus b p = refl
+raised_added (begun l r) links.Times b p = refl
+raised_added (begun l r) links.Over b p = refl
 
 mutual
   unfolding build
@@ -93,20 +107,31 @@ mutual
 
   of_factor : (f : Factor) (around : List Frame) (inner : Begun) (link : Link) (rest : List Piece)
       → build (at around inner) (pieces_of_factor link f ++ rest) ≡ build (at around (added inner link f)) rest
-  of_factor (factor (number n) power) around inner link rest = refl
-  of_factor (factor (name n) power) around inner link rest = refl
-  of_factor (factor (dot p q) power) around inner link rest = refl
-  of_factor (factor (delta spot a b) power) around inner link rest = refl
-  of_factor (factor (empty_call n) power) around inner link rest = refl
-  of_factor (factor (call n args) power) around inner link rest =
-      ap (build (at (frame inner link (in_call n None) ∷ around) nothing)) (append_assoc (pieces_of_arguments args) (pieces.EndOfCall power ∷ []) rest)
-      ∙ of_arguments args around inner link n (pieces.EndOfCall power ∷ rest)
-      ∙ call_closed around inner link n (before_last args) (last_of args) power rest
-      ∙ ap (λ (all : Arguments). build (at around (added inner link (factor (call n all) power))) rest) (with_last args)
-  of_factor (factor (parenthesis s) power) around inner link rest =
-      ap (build (at (frame inner link in_parenthesis ∷ around) nothing)) (append_assoc (pieces_of_sum s) (pieces.Close power ∷ []) rest)
-      ∙ of_sum s (frame inner link in_parenthesis ∷ around) (pieces.Close power ∷ rest)
-      ∙ closed_up around inner link s power rest
+  of_factor (factor b None) around inner link rest = of_base b around inner link rest
+  of_factor (factor b (Some p)) around inner link rest =
+      ap (build (at around inner)) (append_assoc (pieces_of_base link b) (piece_of_power p ∷ []) rest)
+      ∙ of_base b around inner link (piece_of_power p ∷ rest)
+      ∙ ap (λ (i : Begun). build (at around i) rest) (raised_added inner link b p)
+
+  of_base : (b : Base) (around : List Frame) (inner : Begun) (link : Link) (rest : List Piece)
+      → build (at around inner) (pieces_of_base link b ++ rest) ≡ build (at around (added inner link (factor b None))) rest
+  of_base (number n) around inner link rest = refl
+  of_base (name n) around inner link rest = refl
+  of_base (dot p q) around inner link rest = refl
+  of_base (delta spot (entries.Name a) (entries.Name b)) around inner link rest = refl
+  of_base (delta spot (entries.Name a) (entries.Number b)) around inner link rest = refl
+  of_base (delta spot (entries.Number a) (entries.Name b)) around inner link rest = refl
+  of_base (delta spot (entries.Number a) (entries.Number b)) around inner link rest = refl
+  of_base (empty_call n) around inner link rest = refl
+  of_base (call n args) around inner link rest =
+      ap (build (at (frame inner link (in_call n None) ∷ around) nothing)) (append_assoc (pieces_of_arguments args) (pieces.EndOfCall ∷ []) rest)
+      ∙ of_arguments args around inner link n (pieces.EndOfCall ∷ rest)
+      ∙ call_closed around inner link n (before_last args) (last_of args) rest
+      ∙ ap (λ (all : Arguments). build (at around (added inner link (factor (call n all) None))) rest) (with_last args)
+  of_base (parenthesis s) around inner link rest =
+      ap (build (at (frame inner link in_parenthesis ∷ around) nothing)) (append_assoc (pieces_of_sum s) (pieces.Close ∷ []) rest)
+      ∙ of_sum s (frame inner link in_parenthesis ∷ around) (pieces.Close ∷ rest)
+      ∙ closed_up around inner link s rest
 
   of_arguments : (args : Arguments) (around : List Frame) (inner : Begun) (link : Link) (n : Named) (rest : List Piece)
       → build (at (frame inner link (in_call n None) ∷ around) nothing) (pieces_of_arguments args ++ rest) ≡ build (at (frame inner link (in_call n (before_last args)) ∷ around) (begun_of (last_of args))) rest

@@ -1,5 +1,5 @@
 -- The tree of pieces, built from the front. That it is the tree whose pieces they are is proved.
-use Rattle.std.specs.Prelude.{List, [], ◌∷◌, Option, Some, None, option_map, option_and_then}
+use Rattle.std.specs.Prelude.{List, [], ◌∷◌, ◌++◌, Option, Some, None, option_map, option_and_then}
 use Rattle.form_base.specs.declared.spot.Spot.{Spot}
 use Rattle.form_ast.specs.declared.expr.Sign.{Sign}
 use Rattle.form_ast.specs.declared.expr.Sign.TheVariants.{Plus, Minus}
@@ -7,6 +7,7 @@ use Rattle.form_ast.specs.declared.expr.Link.{Link}
 use Rattle.form_ast.specs.declared.expr.Link.TheVariants as links
 use Rattle.form_ast.specs.declared.expr.Named.{Named}
 use Rattle.form_ast.specs.declared.expr.Entry.{Entry}
+use Rattle.form_ast.specs.declared.expr.Entry.TheVariants as entries
 use Rattle.form_ast.specs.declared.expr.Power.{Power}
 use Rattle.form_ast.specs.declared.expr.Piece.{Piece}
 use Rattle.form_ast.specs.declared.expr.Piece.TheVariants as pieces
@@ -22,11 +23,12 @@ pub data Begun : Type 0 where
   nothing : Begun
   begun : Lead → Product → Begun
 
--- what is begun of a factor: a parenthesis, a dot product, `d_`, or a call with the arguments that are complete
+-- what is begun of a factor: a parenthesis, a dot product, `d_` with its arguments so far, or a call with the arguments
+-- that are complete
 pub data Opened : Type 0 where
   in_parenthesis : Opened
   in_dot : Named → Opened
-  in_delta : Spot → Entry → Opened
+  in_delta : Spot → List Entry → Opened
   in_call : Named → Option Arguments → Opened
 
 -- a factor that is begun, with the sum around it and how it stands to this
@@ -71,17 +73,27 @@ abbrev pub with_frame : Building → Link → Opened → Building
 with_frame b link opened = record { around = record { outer = b.inner; link = link; opened = opened } ∷ b.around; inner = nothing }
 
 -- the innermost factor that is begun is this
-abbrev pub closed : List Frame → (Opened → Option Base) → Option Power → Option Building
-closed [] base power = None
-closed (f ∷ around) base power = option_map (λ b. record { around = around; inner = added f.outer f.link (factor b power) }) (base f.opened)
+abbrev pub closed : List Frame → (Opened → Option Base) → Option Building
+closed [] base = None
+closed (f ∷ around) base = option_map (λ b. record { around = around; inner = added f.outer f.link (factor b None) }) (base f.opened)
+
+-- the innermost factor that is begun goes on so
+abbrev pub continued : List Frame → (Opened → Option Opened) → Option Building
+continued [] next = None
+continued (f ∷ around) next =
+    option_map (λ opened. record { around = record { outer = f.outer; link = f.link; opened = opened } ∷ around; inner = nothing }) (next f.opened)
 
 abbrev pub dot_of : Named → Opened → Option Base
 dot_of q (in_dot p) = Some (dot p q)
 dot_of q _ = None
 
-abbrev pub delta_of : Entry → Opened → Option Base
-delta_of b (in_delta spot a) = Some (delta spot a b)
-delta_of b _ = None
+abbrev pub delta_of : Opened → Option Base
+delta_of (in_delta spot (a ∷ b ∷ [])) = Some (delta spot a b)
+delta_of _ = None
+
+abbrev pub with_entry : Entry → Opened → Option Opened
+with_entry e (in_delta spot entries) = Some (in_delta spot (entries ++ e ∷ []))
+with_entry e _ = None
 
 abbrev pub call_of : Begun → Opened → Option Base
 call_of nothing (in_call n None) = Some (empty_call n)
@@ -96,25 +108,37 @@ abbrev pub further_of : Begun → Opened → Option Opened
 further_of (begun l p) (in_call n args) = Some (in_call n (Some (with_argument args (sum_of l p))))
 further_of _ _ = None
 
--- the innermost argument is complete, and a further one begins
-abbrev pub parted : List Frame → Begun → Option Building
-parted [] inner = None
-parted (f ∷ around) inner =
-    option_map (λ opened. record { around = record { outer = f.outer; link = f.link; opened = opened } ∷ around; inner = nothing }) (further_of inner f.opened)
+-- the last factor has this power
+abbrev pub with_power_on : Factor → Power → Factor
+with_power_on (factor b power) p = factor b (Some p)
+
+abbrev pub raised_product : Product → Power → Product
+raised_product (one f) p = one (with_power_on f p)
+raised_product (times r f) p = times r (with_power_on f p)
+raised_product (over r f) p = over r (with_power_on f p)
+
+abbrev pub raised : Begun → Power → Begun
+raised nothing p = nothing
+raised (begun l r) p = begun l (raised_product r p)
 
 -- one piece further
 abbrev pub built : Building → Piece → Option Building
-built b (pieces.Number link n power) = Some (with_factor b link (factor (number n) power))
-built b (pieces.Name link n power) = Some (with_factor b link (factor (name n) power))
+built b (pieces.Number link n) = Some (with_factor b link (factor (number n) None))
+built b (pieces.Name link n) = Some (with_factor b link (factor (name n) None))
 built b (pieces.Dot link p) = Some (with_frame b link (in_dot p))
-built b (pieces.EndOfDot q power) = closed b.around (dot_of q) power
-built b (pieces.Delta link spot a) = Some (with_frame b link (in_delta spot a))
-built b (pieces.EndOfDelta a power) = closed b.around (delta_of a) power
+built b (pieces.EndOfDot q) = closed b.around (dot_of q)
+built b (pieces.Delta link spot) = Some (with_frame b link (in_delta spot []))
+built b (pieces.EntryName n) = continued b.around (with_entry (entries.Name n))
+built b (pieces.EntryNumber n) = continued b.around (with_entry (entries.Number n))
+built b pieces.EndOfDelta = closed b.around delta_of
 built b (pieces.Call link n) = Some (with_frame b link (in_call n None))
-built b pieces.Comma = parted b.around b.inner
-built b (pieces.EndOfCall power) = closed b.around (call_of b.inner) power
+-- the innermost argument is complete, and a further one begins
+built b pieces.Comma = continued b.around (further_of b.inner)
+built b pieces.EndOfCall = closed b.around (call_of b.inner)
 built b (pieces.Open link) = Some (with_frame b link in_parenthesis)
-built b (pieces.Close power) = closed b.around (parenthesis_of b.inner) power
+built b pieces.Close = closed b.around (parenthesis_of b.inner)
+built b (pieces.Raised is_parenthesized sign n) =
+    Some (record { around = b.around; inner = raised b.inner (record { is_parenthesized = is_parenthesized; sign = sign; number = n }) })
 
 unfoldable pub build : Building → List Piece → Option Sum
 build b [] = whole b.inner

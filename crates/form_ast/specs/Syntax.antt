@@ -8,6 +8,7 @@ use Rattle.form_ast.specs.declared.expr.Number.{Number}
 use Rattle.form_base.specs.declared.spot.Spot.{Spot}
 use Rattle.form_ast.specs.declared.expr.Named.{Named}
 use Rattle.form_ast.specs.declared.expr.Entry.{Entry}
+use Rattle.form_ast.specs.declared.expr.Entry.TheVariants as entries
 use Rattle.form_ast.specs.declared.expr.Power.{Power}
 use Rattle.form_ast.specs.declared.expr.Piece.{Piece}
 use Rattle.form_ast.specs.declared.expr.Piece.TheVariants as pieces
@@ -53,6 +54,18 @@ abbrev pub first_link : Option Sign → Link
 first_link None = links.First
 first_link (Some sign) = link_of sign
 
+abbrev pub piece_of_entry : Entry → Piece
+piece_of_entry (entries.Name n) = pieces.EntryName n
+piece_of_entry (entries.Number n) = pieces.EntryNumber n
+
+abbrev pub piece_of_power : Power → Piece
+piece_of_power p = pieces.Raised p.is_parenthesized p.sign p.number
+
+-- the pieces of a base, and its power, where it has one
+abbrev pub with_power : List Piece → Option Power → List Piece
+with_power base None = base
+with_power base (Some p) = base ++ piece_of_power p ∷ []
+
 -- the pieces of a tree, in the order of the text
 abbrev mutual
   pub pieces_of_sum : Sum → List Piece
@@ -65,13 +78,16 @@ abbrev mutual
   pieces_of_product link (over p f) = pieces_of_product link p ++ pieces_of_factor links.Over f
 
   pub pieces_of_factor : Link → Factor → List Piece
-  pieces_of_factor link (factor (number n) power) = pieces.Number link n power ∷ []
-  pieces_of_factor link (factor (name n) power) = pieces.Name link n power ∷ []
-  pieces_of_factor link (factor (dot p q) power) = pieces.Dot link p ∷ pieces.EndOfDot q power ∷ []
-  pieces_of_factor link (factor (delta spot a b) power) = pieces.Delta link spot a ∷ pieces.EndOfDelta b power ∷ []
-  pieces_of_factor link (factor (empty_call n) power) = pieces.Call link n ∷ pieces.EndOfCall power ∷ []
-  pieces_of_factor link (factor (call n args) power) = pieces.Call link n ∷ pieces_of_arguments args ++ pieces.EndOfCall power ∷ []
-  pieces_of_factor link (factor (parenthesis s) power) = pieces.Open link ∷ pieces_of_sum s ++ pieces.Close power ∷ []
+  pieces_of_factor link (factor b power) = with_power (pieces_of_base link b) power
+
+  pub pieces_of_base : Link → Base → List Piece
+  pieces_of_base link (number n) = pieces.Number link n ∷ []
+  pieces_of_base link (name n) = pieces.Name link n ∷ []
+  pieces_of_base link (dot p q) = pieces.Dot link p ∷ pieces.EndOfDot q ∷ []
+  pieces_of_base link (delta spot a b) = pieces.Delta link spot ∷ piece_of_entry a ∷ piece_of_entry b ∷ pieces.EndOfDelta ∷ []
+  pieces_of_base link (empty_call n) = pieces.Call link n ∷ pieces.EndOfCall ∷ []
+  pieces_of_base link (call n args) = pieces.Call link n ∷ pieces_of_arguments args ++ pieces.EndOfCall ∷ []
+  pieces_of_base link (parenthesis s) = pieces.Open link ∷ pieces_of_sum s ++ pieces.Close ∷ []
 
   pub pieces_of_arguments : Arguments → List Piece
   pieces_of_arguments (argument s) = pieces_of_sum s

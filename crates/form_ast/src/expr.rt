@@ -60,31 +60,38 @@ pub struct Power {
     pub number: Number,
 }
 
-/// A piece of a right side.
+/// A piece of a right side. It has 48 bytes, since a right side may have millions: what is large is a piece of its own.
 #[derive(Debug, Drop, PartialEq, Eq)]
 pub enum Piece {
     /// A number as a factor.
-    Number(Link, Number, Option<Power>),
+    Number(Link, Number),
     /// A name as a factor.
-    Name(Link, Named, Option<Power>),
+    Name(Link, Named),
     /// A dot product begins, as a factor, with its first name.
     Dot(Link, Named),
     /// A dot product ends with its second name.
-    EndOfDot(Named, Option<Power>),
-    /// A `d_`, which stands here, begins, as a factor, with its first argument.
-    Delta(Link, Spot, Entry),
-    /// A `d_` ends with its second argument.
-    EndOfDelta(Entry, Option<Power>),
+    EndOfDot(Named),
+    /// A `d_`, which stands here, begins, as a factor.
+    Delta(Link, Spot),
+    /// An argument of `d_`.
+    EntryName(Named),
+    /// The same.
+    EntryNumber(Number),
+    /// A `d_` ends.
+    EndOfDelta,
     /// A name with arguments in parentheses begins, as a factor. Each argument is a sum.
     Call(Link, Named),
     /// A further argument begins.
     Comma,
     /// The arguments end.
-    EndOfCall(Option<Power>),
+    EndOfCall,
     /// A sum in parentheses begins, as a factor.
     Open(Link),
     /// A sum in parentheses ends.
-    Close(Option<Power>),
+    Close,
+    /// The power of the factor that ends before it, as `Power` has it: whether it is in parentheses, its sign and its
+    /// number.
+    Raised(bool, Option<Sign>, Number),
 }
 
 /// A right side as it is written, flat, so that it is read, walked and dropped without recursion however deep it is: in

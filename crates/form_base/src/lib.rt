@@ -1,5 +1,5 @@
 //! What every layer speaks of: names and their numbers, causes of refusals, places, statuses with
-//! their codes, and settings.
+//! their codes, settings, and the options of statements.
 #![tactic(auto)]
 
 mod cause;
@@ -9,6 +9,7 @@ mod place;
 mod settings;
 mod spot;
 mod status;
+mod taking;
 
 pub use cause::Cause;
 pub use id::Id;
@@ -17,6 +18,7 @@ pub use place::Place;
 pub use settings::Settings;
 pub use spot::Spot;
 pub use status::Status;
+pub use taking::Taking;
 
 #[cfg(test)]
 mod tests;

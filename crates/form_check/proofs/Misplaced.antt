@@ -4,21 +4,26 @@ use Rattle.std.proofs.lemmas.List.{append-nil}
 use Rattle.form_names.specs.Names.{Entry}
 use Rattle.form_ast.specs.declared.expr.Link.{Link}
 use Rattle.form_ast.specs.declared.expr.Link.TheVariants as links
+use Rattle.form_ast.specs.declared.expr.Entry.TheVariants as entries
 use Rattle.form_ast.specs.declared.expr.Power.{Power}
 use Rattle.form_ast.specs.declared.expr.Piece.{Piece}
 use Rattle.form_ast.specs.declared.expr.Piece.TheVariants as written
-use Rattle.form_ast.specs.Syntax.{Sum, first, more, Product, one, times, over, Factor, factor, number, name, dot, delta, empty_call, call, parenthesis, Arguments, argument, further, link_of, first_link, pieces_of_sum, pieces_of_product, pieces_of_factor, pieces_of_arguments}
+use Rattle.form_ast.specs.Syntax.{Sum, first, more, Product, one, times, over, Factor, factor, Base, number, name, dot, delta, empty_call, call, parenthesis, Arguments, argument, further, link_of, first_link, piece_of_power, pieces_of_sum, pieces_of_product, pieces_of_factor, pieces_of_base, pieces_of_arguments}
 use Rattle.form_check.specs.Refusal.{Refusal}
 use Rattle.form_check.specs.RightSide.{first_misplaced}
 use Rattle.form_check.specs.Walking.{is_single, misplaced_to_end}
-use Rattle.std.specs.Prelude.{Option}
+use Rattle.std.specs.Prelude.{Some, None}
 use Rattle.form_check.proofs.Binding.{minus-one, not-zero}
 
 -- ---- commas
 
-ends-one : (k : ℕ) (power : Option Power) (rest : List Piece) → is_single (suc k) (written.EndOfCall power ∷ rest) ≡ is_single k rest
+ends-one : (k : ℕ) (rest : List Piece) → is_single (suc k) (written.EndOfCall ∷ rest) ≡ is_single k rest
 unfolding is_single
-ends-one k power rest = rw (not-zero k, minus-one k) refl
+ends-one k rest = rw (not-zero k, minus-one k) refl
+
+passes-power : (p : Power) (k : ℕ) (rest : List Piece) → is_single k (piece_of_power p ∷ rest) ≡ is_single k rest
+unfolding is_single
+passes-power p k rest = refl
 
 passes-comma : (k : ℕ) (rest : List Piece) → is_single (suc k) (written.Comma ∷ rest) ≡ is_single (suc k) rest
 unfolding is_single
@@ -43,20 +48,29 @@ mutual
       ∙ single-product link p k (pieces_of_factor links.Over f ++ rest) ∙ single-factor links.Over f k rest
 
   single-factor : (link : Link) (f : Factor) (k : ℕ) (rest : List Piece) → is_single k (pieces_of_factor link f ++ rest) ≡ is_single k rest
-  single-factor link (factor (number n) power) k rest = refl
-  single-factor link (factor (name n) power) k rest = refl
-  single-factor link (factor (dot p q) power) k rest = refl
-  single-factor link (factor (delta spot a c) power) k rest = refl
-  single-factor link (factor (empty_call n) power) k rest =
-      ap (λ (m : ℕ). is_single m (written.EndOfCall power ∷ rest)) (add-one k) ∙ ends-one k power rest
-  single-factor link (factor (call n args) power) k rest =
-      ap (λ (m : ℕ). is_single m ((pieces_of_arguments args ++ written.EndOfCall power ∷ []) ++ rest)) (add-one k)
-      ∙ ap (is_single (suc k)) (append_assoc (pieces_of_arguments args) (written.EndOfCall power ∷ []) rest)
-      ∙ single-arguments args k (written.EndOfCall power ∷ rest)
-      ∙ ends-one k power rest
-  single-factor link (factor (parenthesis s) power) k rest =
-      ap (is_single k) (append_assoc (pieces_of_sum s) (written.Close power ∷ []) rest)
-      ∙ single-sum s k (written.Close power ∷ rest)
+  single-factor link (factor b None) k rest = single-base link b k rest
+  single-factor link (factor b (Some p)) k rest =
+      ap (is_single k) (append_assoc (pieces_of_base link b) (piece_of_power p ∷ []) rest)
+      ∙ single-base link b k (piece_of_power p ∷ rest) ∙ passes-power p k rest
+
+  single-base : (link : Link) (b : Base) (k : ℕ) (rest : List Piece) → is_single k (pieces_of_base link b ++ rest) ≡ is_single k rest
+  single-base link (number n) k rest = refl
+  single-base link (name n) k rest = refl
+  single-base link (dot p q) k rest = refl
+  single-base link (delta spot (entries.Name a) (entries.Name c)) k rest = refl
+  single-base link (delta spot (entries.Name a) (entries.Number c)) k rest = refl
+  single-base link (delta spot (entries.Number a) (entries.Name c)) k rest = refl
+  single-base link (delta spot (entries.Number a) (entries.Number c)) k rest = refl
+  single-base link (empty_call n) k rest =
+      ap (λ (m : ℕ). is_single m (written.EndOfCall ∷ rest)) (add-one k) ∙ ends-one k rest
+  single-base link (call n args) k rest =
+      ap (λ (m : ℕ). is_single m ((pieces_of_arguments args ++ written.EndOfCall ∷ []) ++ rest)) (add-one k)
+      ∙ ap (is_single (suc k)) (append_assoc (pieces_of_arguments args) (written.EndOfCall ∷ []) rest)
+      ∙ single-arguments args k (written.EndOfCall ∷ rest)
+      ∙ ends-one k rest
+  single-base link (parenthesis s) k rest =
+      ap (is_single k) (append_assoc (pieces_of_sum s) (written.Close ∷ []) rest)
+      ∙ single-sum s k (written.Close ∷ rest)
 
   single-arguments : (args : Arguments) (k : ℕ) (rest : List Piece) → is_single (suc k) (pieces_of_arguments args ++ rest) ≡ is_single (suc k) rest
   single-arguments (argument s) k rest = single-sum s (suc k) rest
@@ -82,17 +96,20 @@ module _ (names : List Entry) where
   misplaced-append : (a b : List Piece) (none : Refusal) → first_misplaced names (a ++ b) none ≡ first_misplaced names a (first_misplaced names b none)
   unfolding first_misplaced
   misplaced-append [] b none = refl
-  misplaced-append (written.Number link n power ∷ a) b none = misplaced-append a b none
-  misplaced-append (written.Name link n power ∷ a) b none = refl
+  misplaced-append (written.Number link n ∷ a) b none = misplaced-append a b none
+  misplaced-append (written.Name link n ∷ a) b none = refl
   misplaced-append (written.Dot link n ∷ a) b none = refl
-  misplaced-append (written.EndOfDot n power ∷ a) b none = misplaced-append a b none
-  misplaced-append (written.Delta link spot e ∷ a) b none = refl
-  misplaced-append (written.EndOfDelta e power ∷ a) b none = misplaced-append a b none
+  misplaced-append (written.EndOfDot n ∷ a) b none = misplaced-append a b none
+  misplaced-append (written.Delta link spot ∷ a) b none = refl
+  misplaced-append (written.EntryName n ∷ a) b none = misplaced-append a b none
+  misplaced-append (written.EntryNumber n ∷ a) b none = misplaced-append a b none
+  misplaced-append (written.EndOfDelta ∷ a) b none = misplaced-append a b none
   misplaced-append (written.Call link n ∷ a) b none = refl
   misplaced-append (written.Comma ∷ a) b none = misplaced-append a b none
-  misplaced-append (written.EndOfCall power ∷ a) b none = misplaced-append a b none
+  misplaced-append (written.EndOfCall ∷ a) b none = misplaced-append a b none
   misplaced-append (written.Open link ∷ a) b none = misplaced-append a b none
-  misplaced-append (written.Close power ∷ a) b none = misplaced-append a b none
+  misplaced-append (written.Close ∷ a) b none = misplaced-append a b none
+  misplaced-append (written.Raised is_parenthesized sign n ∷ a) b none = misplaced-append a b none
 
   abbrev Seen : List Piece → Type 0
   Seen text = (rest : List Piece) (none : Refusal) → misplaced_to_end names (text ++ rest) none ≡ first_misplaced names text (misplaced_to_end names rest none)
@@ -103,9 +120,13 @@ module _ (names : List Entry) where
       ∙ ap (first_misplaced names a) (g rest none)
       ∙ sym (misplaced-append a b (misplaced_to_end names rest none))
 
-  seen-close : (power : Option Power) → Seen (written.Close power ∷ [])
+  seen-close : Seen (written.Close ∷ [])
   unfolding first_misplaced misplaced_to_end
-  seen-close power rest none = refl
+  seen-close rest none = refl
+
+  seen-power : (p : Power) → Seen (piece_of_power p ∷ [])
+  unfolding first_misplaced misplaced_to_end
+  seen-power p rest none = refl
 
   mutual
     unfolding first_misplaced misplaced_to_end
@@ -120,11 +141,15 @@ module _ (names : List Entry) where
     seen-product link (over p f) rest none = seen-append (pieces_of_product link p) (pieces_of_factor links.Over f) (λ r n. seen-product link p r n) (λ r n. seen-factor links.Over f r n) rest none
 
     seen-factor : (link : Link) (f : Factor) → Seen (pieces_of_factor link f)
-    seen-factor link (factor (number n) power) rest none = refl
-    seen-factor link (factor (name n) power) rest none = refl
-    seen-factor link (factor (dot p q) power) rest none = refl
-    seen-factor link (factor (delta spot a c) power) rest none = refl
-    seen-factor link (factor (empty_call n) power) rest none = refl
-    seen-factor link (factor (call n args) power) rest none = refl
-    seen-factor link (factor (parenthesis s) power) rest none =
-        seen-append (pieces_of_sum s) (written.Close power ∷ []) (λ r n. seen-sum s r n) (seen-close power) rest none
+    seen-factor link (factor b None) rest none = seen-base link b rest none
+    seen-factor link (factor b (Some p)) rest none = seen-append (pieces_of_base link b) (piece_of_power p ∷ []) (λ r n. seen-base link b r n) (seen-power p) rest none
+
+    seen-base : (link : Link) (b : Base) → Seen (pieces_of_base link b)
+    seen-base link (number n) rest none = refl
+    seen-base link (name n) rest none = refl
+    seen-base link (dot p q) rest none = refl
+    seen-base link (delta spot a c) rest none = refl
+    seen-base link (empty_call n) rest none = refl
+    seen-base link (call n args) rest none = refl
+    seen-base link (parenthesis s) rest none =
+        seen-append (pieces_of_sum s) (written.Close ∷ []) (λ r n. seen-sum s r n) seen-close rest none

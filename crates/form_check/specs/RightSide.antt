@@ -223,10 +223,10 @@ delta_at spot = record { name = codes "d_"; spot = spot }
 -- the refusal of the first name of pieces, or this, where there is none
 unfoldable pub first_misplaced : List Entry → List Piece → Refusal → Refusal
 first_misplaced names [] none = none
-first_misplaced names (written.Name link n power ∷ rest) none = misplaced names n
+first_misplaced names (written.Name link n ∷ rest) none = misplaced names n
 first_misplaced names (written.Dot link n ∷ rest) none = misplaced names n
 first_misplaced names (written.Call link n ∷ rest) none = misplaced names n
-first_misplaced names (written.Delta link spot a ∷ rest) none = wrong (delta_at spot)
+first_misplaced names (written.Delta link spot ∷ rest) none = wrong (delta_at spot)
 first_misplaced names (_ ∷ rest) none = first_misplaced names rest none
 
 abbrev pub only_end : List Entry → Named → syntax.Sum → Option entries.Entry → Result ends.End Refusal

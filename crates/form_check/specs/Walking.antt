@@ -64,17 +64,26 @@ adds w link r = r >>= (λ f. Ok (with_factor w link f))
 abbrev pub may_name : ℕ → (ℕ → Bool) → ℕ → Bool
 may_name calls stands id = (calls == 0) && stands id
 
+-- the power of the factor that ends before these, where it has one
+abbrev pub power_of : Piece → Option Power
+power_of (written.Raised is_parenthesized sign n) = Some (record { is_parenthesized = is_parenthesized; sign = sign; number = n })
+power_of _ = None
+
+abbrev pub power_at : List Piece → Option Power
+power_at [] = None
+power_at (p ∷ rest) = power_of p
+
 -- ---- arguments
 
 abbrev pub ends_argument : List Piece → Bool
 ends_argument (written.Comma ∷ rest) = true
-ends_argument (written.EndOfCall power ∷ rest) = true
+ends_argument (written.EndOfCall ∷ rest) = true
 ends_argument _ = false
 
--- a piece that is a whole argument, if that ends behind it
+-- a piece that is a whole argument, if that ends behind it, without a power
 abbrev pub alone_piece : Piece → Option entries.Entry
-alone_piece (written.Number links.First n None) = Some (by_entry.Number n)
-alone_piece (written.Name links.First n None) = Some (by_entry.Name n)
+alone_piece (written.Number links.First n) = Some (by_entry.Number n)
+alone_piece (written.Name links.First n) = Some (by_entry.Name n)
 alone_piece _ = None
 
 abbrev pub alone_before : List Piece → Piece → Option entries.Entry
@@ -89,17 +98,17 @@ unfoldable pub is_single : ℕ → List Piece → Bool
 is_single opened [] = false
 is_single opened (written.Call link n ∷ rest) = is_single (opened + 1) rest
 is_single opened (written.Comma ∷ rest) = if opened == 0 then false else is_single opened rest
-is_single opened (written.EndOfCall power ∷ rest) = if opened == 0 then true else is_single (opened - 1) rest
+is_single opened (written.EndOfCall ∷ rest) = if opened == 0 then true else is_single (opened - 1) rest
 is_single opened (_ ∷ rest) = is_single opened rest
 
 -- the first name up to the end of the first call
 unfoldable pub misplaced_to_end : List Entry → List Piece → Refusal → Refusal
 misplaced_to_end names [] none = none
-misplaced_to_end names (written.Name link n power ∷ rest) none = misplaced names n
+misplaced_to_end names (written.Name link n ∷ rest) none = misplaced names n
 misplaced_to_end names (written.Dot link n ∷ rest) none = misplaced names n
 misplaced_to_end names (written.Call link n ∷ rest) none = misplaced names n
-misplaced_to_end names (written.Delta link spot a ∷ rest) none = wrong (delta_at spot)
-misplaced_to_end names (written.EndOfCall power ∷ rest) none = none
+misplaced_to_end names (written.Delta link spot ∷ rest) none = wrong (delta_at spot)
+misplaced_to_end names (written.EndOfCall ∷ rest) none = none
 misplaced_to_end names (_ ∷ rest) none = misplaced_to_end names rest none
 
 -- ---- one piece further
@@ -126,18 +135,18 @@ abbrev pub argument_ended : Walk → Walk
 argument_ended w = at (w.pieces ++ pieces.EndOfArgument ∷ []) w.place w.calls
 
 abbrev pub in_sum : List Entry → (ℕ → Bool) → Walk → Piece → List Piece → Result Walk Refusal
-in_sum names stands w (written.Number link n power) rest = adds w link (number (is_over link) n power)
-in_sum names stands w (written.Name link n power) rest = adds w link (name names (may_name w.calls stands) (is_over link) n power)
+in_sum names stands w (written.Number link n) rest = adds w link (number (is_over link) n (power_at rest))
+in_sum names stands w (written.Name link n) rest = adds w link (name names (may_name w.calls stands) (is_over link) n (power_at rest))
 in_sum names stands w (written.Dot link p) rest = vector names p >>= (λ left. Ok (moved w (places.Dot link left)))
-in_sum names stands w (written.EndOfDot q power) rest = Ok w
-in_sum names stands w (written.Delta link spot a) rest = end names a >>= (λ first. Ok (moved w (places.Delta link first)))
-in_sum names stands w (written.EndOfDelta b power) rest = Ok w
+in_sum names stands w (written.Delta link spot) rest = Ok (moved w (places.Delta link))
 in_sum names stands w (written.Call link n) rest = called names w link n rest
 in_sum names stands w written.Comma rest = Ok (moved (argument_ended w) places.Argument)
-in_sum names stands w (written.EndOfCall power) rest = call_ended (argument_ended w) power
+in_sum names stands w written.EndOfCall rest = call_ended (argument_ended w) (power_at rest)
 in_sum names stands w (written.Open link) rest = Ok (at (w.pieces ++ pieces.Open (link_of link) ∷ []) places.Sum w.calls)
-in_sum names stands w (written.Close power) rest =
-    size_within largest_power power >>= (λ size. Ok (at (w.pieces ++ pieces.Close size ∷ []) places.Sum w.calls))
+in_sum names stands w written.Close rest =
+    size_within largest_power (power_at rest) >>= (λ size. Ok (at (w.pieces ++ pieces.Close size ∷ []) places.Sum w.calls))
+-- a power was looked at where its factor ends
+in_sum names stands w _ rest = Ok w
 
 abbrev pub argument_begun : List Entry → (ℕ → Bool) → Walk → Piece → List Piece → Option tree.Argument → Result Walk Refusal
 argument_begun names stands w p rest (Some a) = Ok (at (w.pieces ++ tree.pieces_of_argument a) places.Behind w.calls)
@@ -148,38 +157,55 @@ abbrev pub IsLone : Option resolved.Piece → Option tree.Argument → Type 0
 IsLone None a = a ≡ None
 IsLone (Some p) a = Some (p ∷ []) ≡ option_map tree.pieces_of_argument a
 
--- the power behind a `)` that ends arguments
-abbrev pub ended_with : Piece → Option (Option Power)
-ended_with (written.EndOfCall power) = Some power
-ended_with _ = None
-
-abbrev pub in_arguments_by : List Entry → (ℕ → Bool) → Walk → Piece → List Piece → Option (Option Power) → Result Walk Refusal
-in_arguments_by names stands w p rest (Some power) = call_ended w power
-in_arguments_by names stands w p rest None = argument_begun names stands w p rest (lone names (alone_before rest p))
+-- the `)` that ends arguments
+abbrev pub ends_call : Piece → Bool
+ends_call written.EndOfCall = true
+ends_call _ = false
 
 -- where an argument may begin
 abbrev pub in_arguments : List Entry → (ℕ → Bool) → Walk → Piece → List Piece → Result Walk Refusal
-in_arguments names stands w p rest = in_arguments_by names stands w p rest (ended_with p)
+in_arguments names stands w p rest =
+    if ends_call p then call_ended w (power_at rest) else argument_begun names stands w p rest (lone names (alone_before rest p))
 
 -- behind an argument that is an index or a vector alone
-abbrev pub behind_argument : Walk → Piece → Result Walk Refusal
-behind_argument w written.Comma = Ok (moved w places.Argument)
-behind_argument w (written.EndOfCall power) = call_ended w power
-behind_argument w _ = Ok w
+abbrev pub behind_argument : Walk → Piece → List Piece → Result Walk Refusal
+behind_argument w written.Comma rest = Ok (moved w places.Argument)
+behind_argument w written.EndOfCall rest = call_ended w (power_at rest)
+behind_argument w _ rest = Ok w
 
-abbrev pub dot_ended : List Entry → Walk → Link → ℕ → Piece → Result Walk Refusal
-dot_ended names w link left (written.EndOfDot q power) =
-    adds w link (vector names q >>= (λ right. size_within largest_exponent power >>= (λ size. Ok (tree.dot left right (exponent (is_over link) power size)))))
-dot_ended names w link left _ = Ok w
+abbrev pub dot_ended : List Entry → Walk → Link → ℕ → Piece → List Piece → Result Walk Refusal
+dot_ended names w link left (written.EndOfDot q) rest =
+    adds w link (vector names q >>= (λ right. size_within largest_exponent (power_at rest) >>= (λ size. Ok (tree.dot left right (exponent (is_over link) (power_at rest) size)))))
+dot_ended names w link left _ rest = Ok w
 
-abbrev pub delta_ended : List Entry → Walk → Link → ends.End → Piece → Result Walk Refusal
-delta_ended names w link first (written.EndOfDelta b power) = adds w link (end names b >>= (λ second. linked_to first second power))
-delta_ended names w link first _ = Ok w
-
--- what a piece that stands alone is in the parentheses of a vector
+-- what a name or a number is that stands alone in the parentheses of a vector or of `d_`
 abbrev pub alone_end : List Entry → Option entries.Entry → Result (Option ends.End) Refusal
 alone_end names None = Ok None
 alone_end names (Some e) = end names e >>= (λ x. Ok (Some x))
+
+-- a piece that is an argument of `d_`
+abbrev pub entry_piece : Piece → Option entries.Entry
+entry_piece (written.EntryName n) = Some (by_entry.Name n)
+entry_piece (written.EntryNumber n) = Some (by_entry.Number n)
+entry_piece _ = None
+
+abbrev pub first_given : Walk → Link → Option ends.End → Walk
+first_given w link (Some x) = moved w (places.SecondEntry link x)
+first_given w link None = w
+
+abbrev pub first_taken : List Entry → Walk → Link → Piece → Result Walk Refusal
+first_taken names w link p = alone_end names (entry_piece p) >>= (λ e. Ok (first_given w link e))
+
+abbrev pub second_given : Walk → Link → ends.End → Option ends.End → Walk
+second_given w link first (Some x) = moved w (places.EndOfDelta link first x)
+second_given w link first None = w
+
+abbrev pub second_taken : List Entry → Walk → Link → ends.End → Piece → Result Walk Refusal
+second_taken names w link first p = alone_end names (entry_piece p) >>= (λ e. Ok (second_given w link first e))
+
+abbrev pub delta_ended : Walk → Link → ends.End → ends.End → Piece → List Piece → Result Walk Refusal
+delta_ended w link first second written.EndOfDelta rest = adds w link (linked_to first second (power_at rest))
+delta_ended w link first second _ rest = Ok w
 
 abbrev pub component_given : Walk → Link → ℕ → Option ends.End → Walk
 component_given w link id (Some x) = moved w (places.Component link id x)
@@ -188,18 +214,20 @@ component_given w link id None = w
 abbrev pub component_taken : List Entry → Walk → Link → ℕ → Piece → Result Walk Refusal
 component_taken names w link id p = alone_end names (alone_piece p) >>= (λ e. Ok (component_given w link id e))
 
-abbrev pub component_ended : Walk → Link → ℕ → ends.End → Piece → Result Walk Refusal
-component_ended w link id x (written.EndOfCall power) = adds w link (linked_to (an_end.Vector id) x power)
-component_ended w link id x _ = Ok w
+abbrev pub component_ended : Walk → Link → ℕ → ends.End → Piece → List Piece → Result Walk Refusal
+component_ended w link id x written.EndOfCall rest = adds w link (linked_to (an_end.Vector id) x (power_at rest))
+component_ended w link id x _ rest = Ok w
 
 abbrev pub taken_at : List Entry → (ℕ → Bool) → Walk → Piece → List Piece → Place → Result Walk Refusal
 taken_at names stands w p rest places.Sum = in_sum names stands w p rest
 taken_at names stands w p rest places.Argument = in_arguments names stands w p rest
-taken_at names stands w p rest places.Behind = behind_argument w p
-taken_at names stands w p rest (places.Dot link left) = dot_ended names w link left p
-taken_at names stands w p rest (places.Delta link first) = delta_ended names w link first p
+taken_at names stands w p rest places.Behind = behind_argument w p rest
+taken_at names stands w p rest (places.Dot link left) = dot_ended names w link left p rest
+taken_at names stands w p rest (places.Delta link) = first_taken names w link p
+taken_at names stands w p rest (places.SecondEntry link first) = second_taken names w link first p
+taken_at names stands w p rest (places.EndOfDelta link first second) = delta_ended w link first second p rest
 taken_at names stands w p rest (places.Vector link id) = component_taken names w link id p
-taken_at names stands w p rest (places.Component link id x) = component_ended w link id x p
+taken_at names stands w p rest (places.Component link id x) = component_ended w link id x p rest
 
 abbrev pub taken : List Entry → (ℕ → Bool) → Walk → Piece → List Piece → Result Walk Refusal
 taken names stands w p rest = taken_at names stands w p rest w.place

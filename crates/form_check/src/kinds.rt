@@ -2,13 +2,13 @@
 ghost use Rattle.std.specs.Prelude.{◌≡◌, IfOk};
 ghost use Rattle.form_base.specs.declared.cause.Cause.TheVariants.{WrongKind, Undeclared};
 ghost use Rattle.form_check.specs.Refusal.{Gives, error_of};
-ghost use Rattle.form_check.specs.RightSide.{spelled_of, wrong, delta_at, misplaced as misplaced_name, found as found_of, vector as vector_named, named_end as end_named, fixed_end as end_fixed, end as end_written, head as head_named, lone_named};
-ghost use Rattle.form_check.specs.Walking.{alone_piece, alone_end as end_alone, IsLone};
+ghost use Rattle.form_check.specs.RightSide.{spelled_of, wrong, delta_at, misplaced as misplaced_name, found as found_of, vector as vector_named, named_end as end_named, fixed_end as end_fixed, head as head_named, lone_named};
+ghost use Rattle.form_check.specs.Walking.{alone_piece, entry_piece, alone_end as end_alone, IsLone};
 
 use crate::CheckError;
 use crate::naming::copy_of;
 use crate::resolved::{End, Found, Head};
-use form_ast::{Entry, Link, Named, Number, Piece, Spelled};
+use form_ast::{Link, Named, Number, Piece, Spelled};
 use form_base::{Cause, Id, Name, Spot};
 use form_names::{Kind, Names};
 use form_term::Index;
@@ -125,13 +125,14 @@ fn fixed_end(number: Number) -> Result<End, CheckError>
     Ok(End::Fixed(number.value as u32))
 }
 
-/// An index, a fixed index or a vector.
-pub fn end(alloc: Global, names: &Names, entry: &Entry) -> Result<End, CheckError>
-    ensures { Gives (λ end. end) result (end_written names.now entry.now) }
+/// An argument of `d_`, where a piece is that.
+pub fn entry_end(alloc: Global, names: &Names, piece: &Piece) -> Result<Option<End>, CheckError>
+    ensures { Gives (λ end. end) result (end_alone names.now (entry_piece piece.now)) }
 {
-    match entry {
-        Entry::Number(number) => fixed_end(*number),
-        Entry::Name(named) => named_end(alloc, names, named),
+    match piece {
+        Piece::EntryNumber(number) => Ok(Some(fixed_end(*number)?)),
+        Piece::EntryName(named) => { Ok(Some(named_end(alloc, names, named)?)) }
+        _ => Ok(None),
     }
 }
 
@@ -140,8 +141,8 @@ pub fn alone_end(alloc: Global, names: &Names, piece: &Piece) -> Result<Option<E
     ensures { Gives (λ end. end) result (end_alone names.now (alone_piece piece.now)) }
 {
     match piece {
-        Piece::Number(Link::First, number, None) => Ok(Some(fixed_end(*number)?)),
-        Piece::Name(Link::First, named, None) => { Ok(Some(named_end(alloc, names, named)?)) }
+        Piece::Number(Link::First, number) => Ok(Some(fixed_end(*number)?)),
+        Piece::Name(Link::First, named) => { Ok(Some(named_end(alloc, names, named)?)) }
         _ => Ok(None),
     }
 }

@@ -30,8 +30,8 @@ fn right_side(alloc: Global, name: &str) -> Result<Expr, AllocError>
     let before = Named::Declared(spelled(alloc, name, 2)?);
     let inner = Named::Declared(spelled(alloc, "x", 2)?);
     pieces.push(Piece::Call(Link::First, before))?;
-    pieces.push(Piece::Name(Link::First, inner, None))?;
-    pieces.push(Piece::EndOfCall(None))?;
+    pieces.push(Piece::Name(Link::First, inner))?;
+    pieces.push(Piece::EndOfCall)?;
     Ok(Expr::from_vec(pieces))
 }
 

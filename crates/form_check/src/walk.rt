@@ -8,7 +8,9 @@ ghost use Rattle.form_check.specs.Walking.{at, walk_of, adds, may_name, with_fac
 ghost use Rattle.form_tree.specs.Tree as tree;
 
 use crate::CheckError;
-use crate::kinds::{alone_end, end, found, head, lone, misplaced, vector, wrong_delta, wrong_name};
+use crate::kinds::{
+    alone_end, entry_end, found, head, lone, misplaced, vector, wrong_delta, wrong_name,
+};
 use crate::powers::{
     LARGEST_EXPONENT, LARGEST_POWER, exponent, is_inverted, is_over, link_of, number_exponent,
     size_of,
@@ -36,8 +38,12 @@ pub enum Place {
     Behind,
     /// In a dot product, behind its first vector.
     Dot(Link, Id),
-    /// In a `d_`, behind its first argument.
-    Delta(Link, End),
+    /// In a `d_`, before its first argument.
+    Delta(Link),
+    /// Behind that.
+    SecondEntry(Link, End),
+    /// Behind its second argument.
+    EndOfDelta(Link, End, End),
     /// In the parentheses of a vector, in which one name or one number stands alone.
     Vector(Link, Id),
     /// Behind that.
@@ -105,26 +111,47 @@ fn linked_index(link: form_tree::Link, index: Index, end: End, power: u32) -> Pi
     }
 }
 
+/// The power that a piece is.
+fn power_of(piece: &form_ast::Piece) -> Option<Power>
+    ensures { result ≡ walking.power_of piece.now }
+{
+    match piece {
+        form_ast::Piece::Raised(is_parenthesized, sign, number) => Some(Power {
+            is_parenthesized: *is_parenthesized,
+            sign: *sign,
+            number: *number,
+        }),
+        _ => None,
+    }
+}
+
+/// The power of the factor that ends before these.
+fn power_at(rest: &[form_ast::Piece]) -> Option<Power>
+    ensures { result ≡ walking.power_at rest.now }
+{
+    match rest {
+        [first, ..] => power_of(first),
+        [] => None,
+    }
+}
+
 /// Whether an argument ends here.
 fn ends_argument(rest: &[form_ast::Piece]) -> bool
     ensures { result ≡ walking.ends_argument rest.now }
 {
     match rest {
-        [first, ..] => matches!(
-            first,
-            form_ast::Piece::Comma | form_ast::Piece::EndOfCall(_)
-        ),
+        [first, ..] => matches!(first, form_ast::Piece::Comma | form_ast::Piece::EndOfCall),
         [] => false,
     }
 }
 
-/// Whether the piece is one number or one name, without a sign or a power.
+/// Whether the piece is one number or one name, without a sign.
 fn is_alone(piece: &form_ast::Piece) -> bool
     ensures { result ≡ is_some (walking.alone_piece piece.now) }
 {
     match piece {
-        form_ast::Piece::Number(Link::First, _, None) => true,
-        form_ast::Piece::Name(Link::First, _, None) => true,
+        form_ast::Piece::Number(Link::First, _) => true,
+        form_ast::Piece::Name(Link::First, _) => true,
         _ => false,
     }
 }
@@ -150,8 +177,8 @@ fn is_single(list: &[form_ast::Piece]) -> bool
         match piece {
             form_ast::Piece::Call(_, _) => opened += 1,
             form_ast::Piece::Comma if opened == 0 => return false,
-            form_ast::Piece::EndOfCall(_) if opened == 0 => return true,
-            form_ast::Piece::EndOfCall(_) => opened -= 1,
+            form_ast::Piece::EndOfCall if opened == 0 => return true,
+            form_ast::Piece::EndOfCall => opened -= 1,
             _ => {}
         }
         rest = others;
@@ -172,11 +199,11 @@ fn misplaced_in(
     let mut rest = list;
     while let [piece, others @ ..] = rest {
         match piece {
-            form_ast::Piece::Name(_, named, _) => return misplaced(alloc, names, named),
+            form_ast::Piece::Name(_, named) => return misplaced(alloc, names, named),
             form_ast::Piece::Dot(_, named) => return misplaced(alloc, names, named),
             form_ast::Piece::Call(_, named) => return misplaced(alloc, names, named),
-            form_ast::Piece::Delta(_, spot, _) => return wrong_delta(alloc, *spot),
-            form_ast::Piece::EndOfCall(_) => break,
+            form_ast::Piece::Delta(_, spot) => return wrong_delta(alloc, *spot),
+            form_ast::Piece::EndOfCall => break,
             _ => {}
         }
         rest = others;
@@ -184,14 +211,11 @@ fn misplaced_in(
     wrong_name(alloc, owner)
 }
 
-/// The power behind a `)` that ends arguments.
-fn ended_with(piece: &form_ast::Piece) -> Option<Option<Power>>
-    ensures { result ≡ walking.ended_with piece.now }
+/// Whether a piece is the `)` that ends arguments.
+fn ends_call(piece: &form_ast::Piece) -> bool
+    ensures { result ≡ walking.ends_call piece.now }
 {
-    match piece {
-        form_ast::Piece::EndOfCall(power) => Some(*power),
-        _ => None,
-    }
+    matches!(piece, form_ast::Piece::EndOfCall)
 }
 
 /// An argument that is a name alone of an index or a vector.
@@ -202,7 +226,7 @@ fn lone_argument(names: &Names, piece: &form_ast::Piece, rest: &[form_ast::Piece
         return None;
     }
     match piece {
-        form_ast::Piece::Name(Link::First, named, None) => lone(names, named),
+        form_ast::Piece::Name(Link::First, named) => lone(names, named),
         _ => None,
     }
 }
@@ -387,26 +411,45 @@ impl Walk {
         link: Link,
         left: Id,
         piece: &form_ast::Piece,
+        rest: &[form_ast::Piece],
     ) -> Result<(), CheckError>
-        ensures gives { Gives (λ _. walk_of self.new) result (walking.dot_ended names.now (walk_of self.old) link left piece.now) }
+        ensures gives { Gives (λ _. walk_of self.new) result (walking.dot_ended names.now (walk_of self.old) link left piece.now rest.now) }
         ensures calls { OnOk result (self.new.calls ≡ self.old.calls) }
     {
-        let form_ast::Piece::EndOfDot(named, power) = piece else {
+        let form_ast::Piece::EndOfDot(named) = piece else {
             return Ok(());
         };
         let right = vector(alloc, names, named)?;
-        let size = size_of(*power, LARGEST_EXPONENT)?;
+        let power = power_at(rest);
+        let size = size_of(power, LARGEST_EXPONENT)?;
         self.add(Piece::Dot {
             link: link_of(link),
             left,
             right,
-            power: exponent(is_over(link), *power, size),
+            power: exponent(is_over(link), power, size),
         })?;
         Ok(())
     }
 
-    /// A `d_` ends.
-    fn end_delta(
+    /// The first argument of `d_`.
+    fn first_entry(
+        &mut self,
+        alloc: Global,
+        names: &Names,
+        link: Link,
+        piece: &form_ast::Piece,
+    ) -> Result<(), CheckError>
+        ensures gives { Gives (λ _. walk_of self.new) result (walking.first_taken names.now (walk_of self.old) link piece.now) }
+        ensures calls { OnOk result (self.new.calls ≡ self.old.calls) }
+    {
+        if let Some(first) = entry_end(alloc, names, piece)? {
+            self.place = Place::SecondEntry(link, first);
+        }
+        Ok(())
+    }
+
+    /// Its second argument.
+    fn second_entry(
         &mut self,
         alloc: Global,
         names: &Names,
@@ -414,14 +457,31 @@ impl Walk {
         first: End,
         piece: &form_ast::Piece,
     ) -> Result<(), CheckError>
-        ensures gives { Gives (λ _. walk_of self.new) result (walking.delta_ended names.now (walk_of self.old) link first piece.now) }
+        ensures gives { Gives (λ _. walk_of self.new) result (walking.second_taken names.now (walk_of self.old) link first piece.now) }
         ensures calls { OnOk result (self.new.calls ≡ self.old.calls) }
     {
-        let form_ast::Piece::EndOfDelta(entry, power) = piece else {
-            return Ok(());
-        };
-        let second = end(alloc, names, entry)?;
-        self.link_ends(link, first, second, *power)
+        if let Some(second) = entry_end(alloc, names, piece)? {
+            self.place = Place::EndOfDelta(link, first, second);
+        }
+        Ok(())
+    }
+
+    /// A `d_` ends.
+    fn end_delta(
+        &mut self,
+        link: Link,
+        first: End,
+        second: End,
+        piece: &form_ast::Piece,
+        rest: &[form_ast::Piece],
+    ) -> Result<(), CheckError>
+        ensures gives { Gives (λ _. walk_of self.new) result (walking.delta_ended (walk_of self.old) link first second piece.now rest.now) }
+        ensures calls { OnOk result (self.new.calls ≡ self.old.calls) }
+    {
+        match piece {
+            form_ast::Piece::EndOfDelta => self.link_ends(link, first, second, power_at(rest)),
+            _ => Ok(()),
+        }
     }
 
     /// The parentheses of a vector end.
@@ -431,13 +491,14 @@ impl Walk {
         vector: Id,
         index: End,
         piece: &form_ast::Piece,
+        rest: &[form_ast::Piece],
     ) -> Result<(), CheckError>
-        ensures gives { Gives (λ _. walk_of self.new) result (walking.component_ended (walk_of self.old) link vector index piece.now) }
+        ensures gives { Gives (λ _. walk_of self.new) result (walking.component_ended (walk_of self.old) link vector index piece.now rest.now) }
         ensures calls { OnOk result (self.new.calls ≡ self.old.calls) }
     {
         match piece {
-            form_ast::Piece::EndOfCall(power) => {
-                self.link_ends(link, End::Vector(vector), index, *power)
+            form_ast::Piece::EndOfCall => {
+                self.link_ends(link, End::Vector(vector), index, power_at(rest))
             }
             _ => Ok(()),
         }
@@ -523,16 +584,16 @@ impl Walk {
         ensures calls { OnOk result (self.new.calls ≤ self.old.calls + 1) }
     {
         match piece {
-            form_ast::Piece::Number(link, number, power) => self.number(*link, *number, *power),
-            form_ast::Piece::Name(link, named, power) => {
-                self.name(alloc, names, standing, *link, named, *power)
+            form_ast::Piece::Number(link, number) => self.number(*link, *number, power_at(rest)),
+            form_ast::Piece::Name(link, named) => {
+                self.name(alloc, names, standing, *link, named, power_at(rest))
             }
             form_ast::Piece::Dot(link, named) => {
                 self.place = Place::Dot(*link, vector(alloc, names, named)?);
                 Ok(())
             }
-            form_ast::Piece::Delta(link, _, entry) => {
-                self.place = Place::Delta(*link, end(alloc, names, entry)?);
+            form_ast::Piece::Delta(link, _) => {
+                self.place = Place::Delta(*link);
                 Ok(())
             }
             form_ast::Piece::Call(link, named) => self.call(alloc, names, *link, named, rest),
@@ -541,9 +602,9 @@ impl Walk {
                 self.place = Place::Argument;
                 Ok(())
             }
-            form_ast::Piece::EndOfCall(power) => {
+            form_ast::Piece::EndOfCall => {
                 self.pieces.extend_from_slice(&[Piece::EndOfArgument])?;
-                self.end_call(*power)
+                self.end_call(power_at(rest))
             }
             form_ast::Piece::Open(link) => {
                 self.add(Piece::Open {
@@ -551,12 +612,16 @@ impl Walk {
                 })?;
                 Ok(())
             }
-            form_ast::Piece::Close(power) => {
-                let power = size_of(*power, LARGEST_POWER)?;
+            form_ast::Piece::Close => {
+                let power = size_of(power_at(rest), LARGEST_POWER)?;
                 self.add(Piece::Close { power })?;
                 Ok(())
             }
-            form_ast::Piece::EndOfDot(_, _) | form_ast::Piece::EndOfDelta(_, _) => Ok(()),
+            form_ast::Piece::EndOfDot(_)
+            | form_ast::Piece::EntryName(_)
+            | form_ast::Piece::EntryNumber(_)
+            | form_ast::Piece::EndOfDelta
+            | form_ast::Piece::Raised(_, _, _) => Ok(()),
         }
     }
 
@@ -573,10 +638,10 @@ impl Walk {
         ensures gives { Gives (λ _. walk_of self.new) result (walking.in_arguments names.now (stands_in standing.now) (walk_of self.old) piece.now rest.now) }
         ensures calls { OnOk result (self.new.calls ≤ self.old.calls + 1) }
     {
-        match ended_with(piece) {
-            Some(power) => self.end_call(power),
-            None => self.begin_argument(alloc, names, standing, piece, rest),
+        if ends_call(piece) {
+            return self.end_call(power_at(rest));
         }
+        self.begin_argument(alloc, names, standing, piece, rest)
     }
 
     /// A piece where an argument begins.
@@ -606,8 +671,12 @@ impl Walk {
     }
 
     /// A piece behind an argument that is an index or a vector alone.
-    fn behind(&mut self, piece: &form_ast::Piece) -> Result<(), CheckError>
-        ensures gives { Gives (λ _. walk_of self.new) result (walking.behind_argument (walk_of self.old) piece.now) }
+    fn behind(
+        &mut self,
+        piece: &form_ast::Piece,
+        rest: &[form_ast::Piece],
+    ) -> Result<(), CheckError>
+        ensures gives { Gives (λ _. walk_of self.new) result (walking.behind_argument (walk_of self.old) piece.now rest.now) }
         ensures calls { OnOk result (self.new.calls ≤ self.old.calls) }
     {
         match piece {
@@ -615,7 +684,7 @@ impl Walk {
                 self.place = Place::Argument;
                 Ok(())
             }
-            form_ast::Piece::EndOfCall(power) => self.end_call(*power),
+            form_ast::Piece::EndOfCall => self.end_call(power_at(rest)),
             _ => Ok(()),
         }
     }
@@ -653,12 +722,18 @@ impl Walk {
         match place {
             Place::Sum => self.in_sum(alloc, names, standing, piece, rest),
             Place::Argument => self.in_arguments(alloc, names, standing, piece, rest),
-            Place::Behind => self.behind(piece),
-            Place::Dot(link, left) => self.end_dot(alloc, names, link, left, piece),
-            Place::Delta(link, first) => self.end_delta(alloc, names, link, first, piece),
+            Place::Behind => self.behind(piece, rest),
+            Place::Dot(link, left) => self.end_dot(alloc, names, link, left, piece, rest),
+            Place::Delta(link) => self.first_entry(alloc, names, link, piece),
+            Place::SecondEntry(link, first) => {
+                self.second_entry(alloc, names, link, first, piece)
+            }
+            Place::EndOfDelta(link, first, second) => {
+                self.end_delta(link, first, second, piece, rest)
+            }
             Place::Vector(link, vector) => self.component(alloc, names, link, vector, piece),
             Place::Component(link, vector, index) => {
-                self.end_component(link, vector, index, piece)
+                self.end_component(link, vector, index, piece, rest)
             }
         }
     }

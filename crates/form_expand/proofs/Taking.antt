@@ -23,7 +23,7 @@ pub times_by_made : (left : Option Monomial) (t m : Monomial) (rest more : Listi
 times_by_made left t m rest more first made = ap (times_by left) first ∙ times_by_before left t more ∙ ap (λ r. before_by r (times_by left more)) made
 
 -- a product that is 0 gives no term
-times_by_zero : (left : Option Monomial) (t : Monomial) (rest more : Listing) → rest ≡ before t more → product_by left t ≡ Ok None → times_by left rest ≡ times_by left more
+pub times_by_zero : (left : Option Monomial) (t : Monomial) (rest more : Listing) → rest ≡ before t more → product_by left t ≡ Ok None → times_by left rest ≡ times_by left more
 times_by_zero left t rest more first made = ap (times_by left) first ∙ times_by_before left t more ∙ ap (λ r. before_by r (times_by left more)) made
 
 pub times_by_refused : (left : Option Monomial) (t : Monomial) (cause : Cause) (rest more : Listing) → rest ≡ before t more → product_by left t ≡ Err cause → times_by left rest ≡ refusal cause
@@ -74,9 +74,9 @@ module _ (max count : ℕ) where
   limited_end end rest e = ap (limited (max - count)) e ∙ limited_within (max - count) (at_end end) (omega arith)
 
 -- behind the last term
-pub goes_end : (end : Option Cause) (old new : Listing) → old ≡ at_end end → (end ≡ None → new ≡ at_end None) → Goes (ended_by end) old new
-goes_end None old new e same = (e, same refl)
-goes_end (Some cause) old new e same = e
+pub gives_end : (end : Option Cause) (old new : Listing) → old ≡ at_end end → (end ≡ None → new ≡ at_end None) → Gives (ended_by end) old new
+gives_end None old new e same = (e, same refl)
+gives_end (Some cause) old new e same = e
 
 -- a product was made
 pub goes_made : (left : Option Monomial) (t : Monomial) (made : Option Monomial) (rest more : Listing) → rest ≡ before t more → product_by left t ≡ Ok made → Goes (Ok (progress_of made)) (times_by left rest) (times_by left more)
@@ -84,11 +84,19 @@ goes_made left t None rest more first made = sym (times_by_zero left t rest more
 goes_made left t (Some m) rest more first made = times_by_made left t m rest more first made
 
 -- where a product wasn't made
+pub gives_unmade : (left : Option Monomial) (t : Monomial) (rest more : Listing) (e : ExpandError) (new : Listing) → rest ≡ before t more → IsMade (Err e) (product_by left t) → Gives (Err e) (times_by left rest) new
+gives_unmade left t rest more (Refused cause) new first made = times_by_refused left t cause rest more first made
+gives_unmade left t rest more Memory new first made = tt
+
 pub goes_unmade : (left : Option Monomial) (t : Monomial) (rest more : Listing) (e : ExpandError) (new : Listing) → rest ≡ before t more → IsMade (Err e) (product_by left t) → Goes (Err e) (times_by left rest) new
 goes_unmade left t rest more (Refused cause) new first made = times_by_refused left t cause rest more first made
 goes_unmade left t rest more Memory new first made = tt
 
 -- where the next term of the right list wasn't given
+pub gives_times_err : (left : Option Monomial) (e : ExpandError) (old new then : Listing) → Gives (Err e) old new → Gives (Err e) (times_by left old) then
+gives_times_err left (Refused cause) old new then h = ap (times_by left) h ∙ times_by_end left (Some cause)
+gives_times_err left Memory old new then h = tt
+
 pub goes_times_err : (left : Option Monomial) (e : ExpandError) (old new then : Listing) → Gives (Err e) old new → Goes (Err e) (times_by left old) then
 goes_times_err left (Refused cause) old new then h = ap (times_by left) h ∙ times_by_end left (Some cause)
 goes_times_err left Memory old new then h = tt

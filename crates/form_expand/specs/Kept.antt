@@ -5,8 +5,6 @@ use Rattle.form_base.specs.declared.cause.Cause.{Cause}
 use Rattle.form_term.specs.declared.monomial.Monomial.{Monomial}
 use Rattle.form_expand.specs.declared.error.ExpandError.{ExpandError}
 use Rattle.form_expand.specs.declared.error.ExpandError.TheVariants.{Refused}
-use Rattle.form_expand.specs.declared.progress.Progress.{Progress}
-use Rattle.form_expand.specs.declared.progress.Progress.TheVariants.{Done}
 use Rattle.form_expand.specs.declared.refusal.Refusal.{Refusal}
 use Rattle.form_expand.specs.declared.whole.Kept.{Kept}
 use Rattle.form_expand.specs.declared.whole.Kept.TheVariants as kept
@@ -36,6 +34,6 @@ BeginsAt l place (Some term) = (rest_at place l ≡ before term.now (rest_at (pl
 BeginsAt l place None = rest_at place l ≡ record { terms = []; end = l.end }
 
 -- the answer behind the last term
-abbrev pub ended_by : Option Cause → Result Progress ExpandError
-ended_by None = Ok Done
+abbrev pub ended_by : Option Cause → Result (Option Monomial) ExpandError
+ended_by None = Ok None
 ended_by (Some cause) = Err (Refused cause)

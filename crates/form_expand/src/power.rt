@@ -54,29 +54,14 @@ impl Step {
         ensures count { self.new.count ≡ self.old.count }
         ensures whole { OnOk result (listing whole.new ≡ listing whole.old) }
     {
-        for _ in 0..u64::MAX {
-            match self.next_times(alloc, whole)? {
-                Progress::Moves => {}
-                Progress::Gives(term) => return Ok(Some(term)),
-                Progress::Done => return Ok(None),
+        while let Some(term) = whole.at(self.place) {
+            let made = times(alloc, &self.left, term)?;
+            self.place += 1;
+            if let Some(made) = made {
+                return Ok(Some(made));
             }
         }
-        Err(ExpandError::Memory)
-    }
-
-    /// The product with the next term.
-    fn next_times(&mut self, alloc: Global, whole: &mut Whole) -> Result<Progress, ExpandError>
-        ensures next { Goes result (opened_list (listing whole.old) self.old) (opened_list (listing whole.new) self.new) }
-        ensures left { self.new.left ≡ self.old.left }
-        ensures count { self.new.count ≡ self.old.count }
-        ensures whole { OnOk result (listing whole.new ≡ listing whole.old) }
-    {
-        let Some(term) = whole.at(self.place) else {
-            return whole.ended();
-        };
-        let made = times(alloc, &self.left, term)?;
-        self.place += 1;
-        Ok(Progress::of(made))
+        whole.ended()
     }
 }
 
@@ -136,30 +121,14 @@ impl<'a> Power<'a> {
         ensures whole { OnOk result (power_whole limit self.new ≡ power_whole limit self.old) }
     {
         for _ in 0..u64::MAX {
-            match self.step_times(alloc, limit, left)? {
-                Progress::Moves => {}
-                Progress::Gives(term) => return Ok(Some(term)),
-                Progress::Done => return Ok(None),
+            let Some(term) = self.next(alloc, limit)? else {
+                return Ok(None);
+            };
+            if let Some(made) = times_owned(alloc, left, term)? {
+                return Ok(Some(made));
             }
         }
         Err(ExpandError::Memory)
-    }
-
-    /// A front of a product times the next term.
-    fn step_times(
-        &mut self,
-        alloc: Global,
-        limit: u64,
-        left: &Option<Monomial>,
-    ) -> Result<Progress, ExpandError>
-        ensures next { Goes result (times_by left.now (power_left limit self.old)) (times_by left.now (power_left limit self.new)) }
-        ensures whole { OnOk result (power_whole limit self.new ≡ power_whole limit self.old) }
-    {
-        let Some(term) = self.next(alloc, limit)? else {
-            return Ok(Progress::Done);
-        };
-        let made = times_owned(alloc, left, term)?;
-        Ok(Progress::of(made))
     }
 
     /// The next term.

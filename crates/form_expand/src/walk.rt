@@ -6,7 +6,6 @@ ghost use Rattle.form_expand.specs.Next.{Gives, Goes};
 ghost use Rattle.form_expand.specs.Walks.{walk_left, walk_whole};
 
 use crate::ExpandError;
-use crate::progress::Progress;
 use crate::times::times;
 use crate::whole::Whole;
 use form_base::Cause;
@@ -58,35 +57,17 @@ impl<'a> Walk<'a> {
         ensures next { Gives result (times_by left.now (walk_left limit self.old)) (times_by left.now (walk_left limit self.new)) }
         ensures whole { OnOk result (walk_whole limit self.new ≡ walk_whole limit self.old) }
     {
-        for _ in 0..u64::MAX {
-            match self.step_times(alloc, limit, left)? {
-                Progress::Moves => {}
-                Progress::Gives(term) => return Ok(Some(term)),
-                Progress::Done => return Ok(None),
+        while let Some(term) = self.whole.at(self.place) {
+            if self.count >= limit {
+                return Err(ExpandError::Refused(Cause::ExpandLimit));
+            }
+            let made = times(alloc, left, term)?;
+            self.place += 1;
+            self.count += 1;
+            if let Some(made) = made {
+                return Ok(Some(made));
             }
         }
-        Err(ExpandError::Memory)
-    }
-
-    /// A front of a product times the next term.
-    fn step_times(
-        &mut self,
-        alloc: Global,
-        limit: u64,
-        left: &Option<Monomial>,
-    ) -> Result<Progress, ExpandError>
-        ensures next { Goes result (times_by left.now (walk_left limit self.old)) (times_by left.now (walk_left limit self.new)) }
-        ensures whole { OnOk result (walk_whole limit self.new ≡ walk_whole limit self.old) }
-    {
-        let Some(term) = self.whole.at(self.place) else {
-            return self.whole.ended();
-        };
-        if self.count >= limit {
-            return Err(ExpandError::Refused(Cause::ExpandLimit));
-        }
-        let made = times(alloc, left, term)?;
-        self.place += 1;
-        self.count += 1;
-        Ok(Progress::of(made))
+        self.whole.ended()
     }
 }

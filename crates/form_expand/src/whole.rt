@@ -3,7 +3,6 @@ ghost use Rattle.form_expand.specs.Listing.{nothing, single, refusal};
 ghost use Rattle.form_expand.specs.Kept.{kept_terms, listing, end_of, ended_by, BeginsAt};
 
 use crate::ExpandError;
-use crate::progress::Progress;
 use crate::refusal::Refusal;
 use form_base::Cause;
 use form_term::Monomial;
@@ -89,13 +88,13 @@ impl Whole<'_> {
     }
 
     /// What comes behind the last term: nothing, or the refusal, which goes.
-    pub fn ended(&mut self) -> Result<Progress, ExpandError>
+    pub fn ended(&mut self) -> Result<Option<Monomial>, ExpandError>
         ensures value { result ≡ ended_by (end_of self.old.end) }
         ensures same { end_of self.old.end ≡ None → self.new ≡ self.old }
     {
         match self.end.take() {
             Some(refusal) => Err(ExpandError::Refused(refusal.into_cause())),
-            None => Ok(Progress::Done),
+            None => Ok(None),
         }
     }
 }

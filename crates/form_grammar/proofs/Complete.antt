@@ -1,5 +1,5 @@
 -- A lawful right side is read whole, and its pieces are kept.
-use Rattle.std.proofs.Common.{◌≡◌, ℕ, suc, ◌<◌, Bool, true, false, List, [], ◌∷◌, ◌++◌, length, Option, Some, None, refl, sym, ap, subst, ◌∙◌, append_assoc, add-one}
+use Rattle.std.proofs.Common.{◌≡◌, ℕ, suc, ◌<◌, Bool, true, false, ◌&&◌, cond, List, [], ◌∷◌, ◌++◌, length, Option, Some, None, option_and_then, refl, sym, ap, subst, ◌∙◌, append_assoc, add-one}
 use Rattle.std.proofs.lemmas.Bool.{lt-ltb}
 use Rattle.std.proofs.lemmas.List.{append-nil}
 use Rattle.form_base.specs.declared.spot.Spot.{Spot}
@@ -15,7 +15,7 @@ use Rattle.form_ast.specs.declared.expr.Entry.TheVariants as entries
 use Rattle.form_ast.specs.declared.expr.Power.{Power}
 use Rattle.form_ast.specs.declared.expr.Piece.{Piece}
 use Rattle.form_ast.specs.declared.expr.Piece.TheVariants as pieces
-use Rattle.form_ast.specs.Syntax.{Sum, first, more, Product, one, times, over, Factor, factor, Base, number, name, dot, delta, empty_call, call, parenthesis, Arguments, argument, further, link_of, pieces_of_sum, pieces_of_product, pieces_of_factor, pieces_of_arguments}
+use Rattle.form_ast.specs.Syntax.{Sum, first, more, Product, one, times, over, Factor, factor, Base, number, name, dot, delta, empty_call, call, parenthesis, Arguments, argument, further, link_of, piece_of_entry, piece_of_power, pieces_of_sum, pieces_of_product, pieces_of_factor, pieces_of_base, pieces_of_arguments}
 use Rattle.form_ast.specs.Lawful.{most_open, IsDivisor, IsLawful, IsLawfulSum, IsLawfulProduct, IsLawfulFactor, IsLawfulArguments}
 use Rattle.form_grammar.specs.declared.brackets.Bracket.{Bracket}
 use Rattle.form_grammar.specs.declared.brackets.Bracket.TheVariants.{Parenthesis}
@@ -28,10 +28,10 @@ use Rattle.form_grammar.specs.declared.effect.Expected.{Expected}
 use Rattle.form_grammar.specs.declared.effect.Expected.TheVariants as by_expected
 use Rattle.form_grammar.specs.declared.effect.Effect.TheVariants as by_effect
 use Rattle.form_grammar.specs.declared.reader.Change.TheVariants as changes
-use Rattle.form_grammar.specs.Effect.{raise_effect}
+use Rattle.form_grammar.specs.Effect.{is_enclosed, is_negative, behind_number, raise_effect}
 use Rattle.form_grammar.specs.Grammar.{written_sum, written_product, written_factor, written_base, written_power, written_name, written_entry, written_arguments}
-use Rattle.form_grammar.specs.Reading.{Reading, begun, with_last, run}
-use Rattle.form_grammar.proofs.Lasts.{base_may_raise, raises_factor, is_raised}
+use Rattle.form_grammar.specs.Reading.{Reading, begun, with_last, applied, run}
+use Rattle.form_grammar.proofs.Lasts.{base_may_raise, is_raised}
 use Rattle.form_grammar.proofs.Places.{last_of_base, last_behind, last_of}
 use Rattle.form_grammar.proofs.Raised.{changed_last}
 
@@ -103,25 +103,51 @@ regrouped opened a b c expected rest = ap (λ (kept : List Piece). run (at kept 
 
 -- ---- powers
 
-abbrev may_raise : lasts.Last → Type 0
-may_raise l = raise_effect l ≡ by_effect.Waits (by_expected.Exponent false None)
+module _ (opened : List Bracket) (old : List Piece) where
+  -- the mark before a power
+  raises : (l : lasts.Last) (rest : List terminals.Terminal) → raise_effect l ≡ by_effect.Waits (by_expected.Exponent (is_enclosed l) false None)
+      → run (at old opened (behind l)) (by_terminal.Raise ∷ rest) ≡ run (at old opened (by_expected.Exponent (is_enclosed l) false None)) rest
+  unfolding run
+  raises l rest may = rw may refl
 
--- a power, behind what it changes
-exponent : (opened : List Bracket) (old new : List Piece) (l : lasts.Last) (is_parenthesized : Bool) (sign : Option Sign) (n : Number) → may_raise l → (is_parenthesized ≡ true → length opened < most_open)
-    → with_last (changes.Power (record { is_parenthesized = is_parenthesized; sign = sign; number = n })) old ≡ Some new
-    → Reads opened old (behind l) (written_power (Some (record { is_parenthesized = is_parenthesized; sign = sign; number = n }))) new (behind last.Power)
-unfolding run
-exponent opened old new l false None n may room e rest = rw (may, e) refl
-exponent opened old new l false (Some sign) n may room e rest = rw (may, e) refl
-exponent opened old new l true None n may room e rest = rw (may, lt-ltb (length opened) 64 (room refl), e) refl
-exponent opened old new l true (Some sign) n may room e rest = rw (may, lt-ltb (length opened) 64 (room refl), e) refl
+  -- its parenthesis
+  encloses : (is_on_enclosed : Bool) (rest : List terminals.Terminal) → length opened < most_open
+      → run (at old opened (by_expected.Exponent is_on_enclosed false None)) (by_terminal.Open ∷ rest) ≡ run (at old opened (by_expected.Exponent is_on_enclosed true None)) rest
+  unfolding run
+  encloses is_on_enclosed rest room = rw (lt-ltb (length opened) 64 room) refl
+
+  -- its number
+  numbers : (is_on_enclosed : Bool) (p : Power) (rest : List terminals.Terminal) → (is_on_enclosed && is_negative p) ≡ false
+      → run (at old opened (by_expected.Exponent is_on_enclosed p.is_parenthesized p.sign)) (by_terminal.Number p.number ∷ rest)
+      ≡ run (at (old ++ piece_of_power p ∷ []) opened (behind_number p.is_parenthesized)) rest
+  unfolding run
+  numbers is_on_enclosed p rest allowed =
+      ap (λ (b : Bool). option_and_then (λ next. run next rest) (applied (at old opened (by_expected.Exponent is_on_enclosed p.is_parenthesized p.sign)) (cond b by_effect.Fails (by_effect.Adds (piece_of_power p) (behind_number p.is_parenthesized))))) allowed
+
+  exponent : (l : lasts.Last) (is_parenthesized : Bool) (sign : Option Sign) (n : Number) → raise_effect l ≡ by_effect.Waits (by_expected.Exponent (is_enclosed l) false None)
+      → (is_parenthesized ≡ true → length opened < most_open) → (is_enclosed l && is_negative (record { is_parenthesized = is_parenthesized; sign = sign; number = n })) ≡ false
+      → Reads opened old (behind l) (written_power (Some (record { is_parenthesized = is_parenthesized; sign = sign; number = n }))) (old ++ piece_of_power (record { is_parenthesized = is_parenthesized; sign = sign; number = n }) ∷ []) (behind last.Power)
+  unfolding run
+  exponent l false None n may room allowed rest =
+      raises l (by_terminal.Number n ∷ rest) may ∙ numbers (is_enclosed l) (record { is_parenthesized = false; sign = None; number = n }) rest allowed
+  exponent l false (Some sign) n may room allowed rest =
+      raises l (by_terminal.Sign sign ∷ by_terminal.Number n ∷ rest) may ∙ numbers (is_enclosed l) (record { is_parenthesized = false; sign = Some sign; number = n }) rest allowed
+  exponent l true None n may room allowed rest =
+      raises l (by_terminal.Open ∷ by_terminal.Number n ∷ by_terminal.Close ∷ rest) may
+      ∙ encloses (is_enclosed l) (by_terminal.Number n ∷ by_terminal.Close ∷ rest) (room refl)
+      ∙ numbers (is_enclosed l) (record { is_parenthesized = true; sign = None; number = n }) (by_terminal.Close ∷ rest) allowed
+  exponent l true (Some sign) n may room allowed rest =
+      raises l (by_terminal.Open ∷ by_terminal.Sign sign ∷ by_terminal.Number n ∷ by_terminal.Close ∷ rest) may
+      ∙ encloses (is_enclosed l) (by_terminal.Sign sign ∷ by_terminal.Number n ∷ by_terminal.Close ∷ rest) (room refl)
+      ∙ numbers (is_enclosed l) (record { is_parenthesized = true; sign = Some sign; number = n }) (by_terminal.Close ∷ rest) allowed
 
 power_on : (opened : List Bracket) (kept : List Piece) (link : Link) (b : Base) (power : Option Power) → IsLawfulFactor (length opened) (factor b power)
-    → Reads opened (kept ++ pieces_of_factor link (factor b None)) (behind (last_of_base b)) (written_power power) (kept ++ pieces_of_factor link (factor b power)) (behind (last_behind (last_of_base b) power))
+    → Reads opened (kept ++ pieces_of_base link b) (behind (last_of_base b)) (written_power power) (kept ++ pieces_of_factor link (factor b power)) (behind (last_behind (last_of_base b) power))
 power_on opened kept link b None h rest = refl
 power_on opened kept link b (Some p) h rest =
     let r = is_raised (length opened) b p h in
-    exponent opened (kept ++ pieces_of_factor link (factor b None)) (kept ++ pieces_of_factor link (factor b (Some p))) (last_of_base b) p.is_parenthesized p.sign p.number (base_may_raise b) r.room (raises_factor kept link b p r.allowed) rest
+    exponent opened (kept ++ pieces_of_base link b) (last_of_base b) p.is_parenthesized p.sign p.number (base_may_raise b) r.room r.allowed rest
+    ∙ regrouped opened kept (pieces_of_base link b) (piece_of_power p ∷ []) (behind last.Power) rest
 
 lowered : (opened : ℕ) (b : Base) (power : Option Power) → IsLawfulFactor opened (factor b power) → IsLawfulFactor opened (factor b None)
 lowered opened b None h = h
@@ -139,48 +165,48 @@ opens opened kept links.Times rest h room = rw (lt-ltb (length opened) 64 room) 
 opens opened kept links.Over rest h room = absurd h
 
 closes : (opened : List Bracket) (kept : List Piece) (l : lasts.Last) (rest : List terminals.Terminal)
-    → run (at kept (Parenthesis ∷ opened) (behind l)) (by_terminal.Close ∷ rest) ≡ run (at (kept ++ pieces.Close None ∷ []) opened (behind last.Base)) rest
+    → run (at kept (Parenthesis ∷ opened) (behind l)) (by_terminal.Close ∷ rest) ≡ run (at (kept ++ pieces.Close ∷ []) opened (behind last.Enclosed)) rest
 unfolding run
 closes opened kept l rest = refl
 
 -- ---- names
 
 names_it : (opened : List Bracket) (kept : List Piece) (link : Link) (n : Named) (rest : List terminals.Terminal)
-    → run (at kept opened (by_expected.Factor link)) (written_name n ∷ rest) ≡ run (at (kept ++ pieces.Name link n None ∷ []) opened (behind last.Name)) rest
+    → run (at kept opened (by_expected.Factor link)) (written_name n ∷ rest) ≡ run (at (kept ++ pieces.Name link n ∷ []) opened (behind last.Name)) rest
 unfolding run
 names_it opened kept link (names.Declared n) rest = refl
 names_it opened kept link (names.Imaginary spot) rest = refl
 
 dots : (opened : List Bracket) (kept : List Piece) (link : Link) (n : Named) (rest : List terminals.Terminal)
-    → run (at (kept ++ pieces.Name link n None ∷ []) opened (behind last.Name)) (by_terminal.Period ∷ rest) ≡ run (at (kept ++ pieces.Dot link n ∷ []) opened by_expected.Vector) rest
+    → run (at (kept ++ pieces.Name link n ∷ []) opened (behind last.Name)) (by_terminal.Period ∷ rest) ≡ run (at (kept ++ pieces.Dot link n ∷ []) opened by_expected.Vector) rest
 unfolding run
-dots opened kept link n rest = rw (changed_last changes.Dot kept (pieces.Name link n None)) refl
+dots opened kept link n rest = rw (changed_last changes.Dot kept (pieces.Name link n)) refl
 
 ends_dot : (opened : List Bracket) (kept : List Piece) (n : Named) (rest : List terminals.Terminal)
-    → run (at kept opened by_expected.Vector) (written_name n ∷ rest) ≡ run (at (kept ++ pieces.EndOfDot n None ∷ []) opened (behind last.Base)) rest
+    → run (at kept opened by_expected.Vector) (written_name n ∷ rest) ≡ run (at (kept ++ pieces.EndOfDot n ∷ []) opened (behind last.Base)) rest
 unfolding run
 ends_dot opened kept (names.Declared n) rest = refl
 ends_dot opened kept (names.Imaginary spot) rest = refl
 
-called : (kept : List Piece) (link : Link) (n : Named) → IsNotOver link → with_last changes.Call (kept ++ pieces.Name link n None ∷ []) ≡ Some (kept ++ pieces.Call link n ∷ [])
-called kept links.First n h = changed_last changes.Call kept (pieces.Name links.First n None)
-called kept links.Plus n h = changed_last changes.Call kept (pieces.Name links.Plus n None)
-called kept links.Minus n h = changed_last changes.Call kept (pieces.Name links.Minus n None)
-called kept links.Times n h = changed_last changes.Call kept (pieces.Name links.Times n None)
+called : (kept : List Piece) (link : Link) (n : Named) → IsNotOver link → with_last changes.Call (kept ++ pieces.Name link n ∷ []) ≡ Some (kept ++ pieces.Call link n ∷ [])
+called kept links.First n h = changed_last changes.Call kept (pieces.Name links.First n)
+called kept links.Plus n h = changed_last changes.Call kept (pieces.Name links.Plus n)
+called kept links.Minus n h = changed_last changes.Call kept (pieces.Name links.Minus n)
+called kept links.Times n h = changed_last changes.Call kept (pieces.Name links.Times n)
 called kept links.Over n h = absurd h
 
 calls : (opened : List Bracket) (kept : List Piece) (link : Link) (n : Named) (rest : List terminals.Terminal) → IsNotOver link → length opened < most_open
-    → run (at (kept ++ pieces.Name link n None ∷ []) opened (behind last.Name)) (by_terminal.Open ∷ rest) ≡ run (at (kept ++ pieces.Call link n ∷ []) (brackets.Arguments ∷ opened) by_expected.Argument) rest
+    → run (at (kept ++ pieces.Name link n ∷ []) opened (behind last.Name)) (by_terminal.Open ∷ rest) ≡ run (at (kept ++ pieces.Call link n ∷ []) (brackets.Arguments ∷ opened) by_expected.Argument) rest
 unfolding run
 calls opened kept link n rest h room = rw (lt-ltb (length opened) 64 room, called kept link n h) refl
 
 ends_empty : (opened : List Bracket) (kept : List Piece) (rest : List terminals.Terminal)
-    → run (at kept (brackets.Arguments ∷ opened) by_expected.Argument) (by_terminal.Close ∷ rest) ≡ run (at (kept ++ pieces.EndOfCall None ∷ []) opened (behind last.Base)) rest
+    → run (at kept (brackets.Arguments ∷ opened) by_expected.Argument) (by_terminal.Close ∷ rest) ≡ run (at (kept ++ pieces.EndOfCall ∷ []) opened (behind last.Enclosed)) rest
 unfolding run
 ends_empty opened kept rest = refl
 
 ends_call : (opened : List Bracket) (kept : List Piece) (l : lasts.Last) (rest : List terminals.Terminal)
-    → run (at kept (brackets.Arguments ∷ opened) (behind l)) (by_terminal.Close ∷ rest) ≡ run (at (kept ++ pieces.EndOfCall None ∷ []) opened (behind last.Base)) rest
+    → run (at kept (brackets.Arguments ∷ opened) (behind l)) (by_terminal.Close ∷ rest) ≡ run (at (kept ++ pieces.EndOfCall ∷ []) opened (behind last.Enclosed)) rest
 unfolding run
 ends_call opened kept l rest = refl
 
@@ -192,7 +218,7 @@ parts opened kept l rest = refl
 -- ---- deltas
 
 delta_opens : (opened : List Bracket) (kept : List Piece) (link : Link) (spot : Spot) (rest : List terminals.Terminal) → IsNotOver link → length opened < most_open
-    → run (at kept opened (by_expected.Factor link)) (by_terminal.Delta spot ∷ by_terminal.Open ∷ rest) ≡ run (at kept opened (by_expected.FirstEntry link spot)) rest
+    → run (at kept opened (by_expected.Factor link)) (by_terminal.Delta spot ∷ by_terminal.Open ∷ rest) ≡ run (at (kept ++ pieces.Delta link spot ∷ []) opened by_expected.FirstEntry) rest
 unfolding run
 delta_opens opened kept links.First spot rest h room = rw (lt-ltb (length opened) 64 room) refl
 delta_opens opened kept links.Plus spot rest h room = rw (lt-ltb (length opened) 64 room) refl
@@ -200,15 +226,15 @@ delta_opens opened kept links.Minus spot rest h room = rw (lt-ltb (length opened
 delta_opens opened kept links.Times spot rest h room = rw (lt-ltb (length opened) 64 room) refl
 delta_opens opened kept links.Over spot rest h room = absurd h
 
-first_entry : (opened : List Bracket) (kept : List Piece) (link : Link) (spot : Spot) (a : Entry) (rest : List terminals.Terminal)
-    → run (at kept opened (by_expected.FirstEntry link spot)) (written_entry a ∷ by_terminal.Comma ∷ rest) ≡ run (at (kept ++ pieces.Delta link spot a ∷ []) opened by_expected.SecondEntry) rest
+first_entry : (opened : List Bracket) (kept : List Piece) (a : Entry) (rest : List terminals.Terminal)
+    → run (at kept opened by_expected.FirstEntry) (written_entry a ∷ by_terminal.Comma ∷ rest) ≡ run (at (kept ++ piece_of_entry a ∷ []) opened by_expected.SecondEntry) rest
 unfolding run
-first_entry opened kept link spot (entries.Name (names.Declared n)) rest = refl
-first_entry opened kept link spot (entries.Name (names.Imaginary other)) rest = refl
-first_entry opened kept link spot (entries.Number n) rest = refl
+first_entry opened kept (entries.Name (names.Declared n)) rest = refl
+first_entry opened kept (entries.Name (names.Imaginary other)) rest = refl
+first_entry opened kept (entries.Number n) rest = refl
 
 second_entry : (opened : List Bracket) (kept : List Piece) (a : Entry) (rest : List terminals.Terminal)
-    → run (at kept opened by_expected.SecondEntry) (written_entry a ∷ by_terminal.Close ∷ rest) ≡ run (at (kept ++ pieces.EndOfDelta a None ∷ []) opened (behind last.Base)) rest
+    → run (at kept opened by_expected.SecondEntry) (written_entry a ∷ by_terminal.Close ∷ rest) ≡ run (at ((kept ++ piece_of_entry a ∷ []) ++ pieces.EndOfDelta ∷ []) opened (behind last.Enclosed)) rest
 unfolding run
 second_entry opened kept (entries.Name (names.Declared n)) rest = refl
 second_entry opened kept (entries.Name (names.Imaginary spot)) rest = refl
@@ -265,12 +291,15 @@ enclosed_pieces kept a x y = simp append_assoc
 two_pieces : {A : Type 0} (kept : List A) (x y : A) → (kept ++ x ∷ []) ++ y ∷ [] ≡ kept ++ x ∷ y ∷ []
 two_pieces kept x y = append_assoc kept (x ∷ []) (y ∷ [])
 
+four_pieces : {A : Type 0} (kept : List A) (x y z u : A) → (((kept ++ x ∷ []) ++ y ∷ []) ++ z ∷ []) ++ u ∷ [] ≡ kept ++ x ∷ y ∷ z ∷ u ∷ []
+four_pieces kept x y z u = simp append_assoc
+
 parted_pieces : {A : Type 0} (kept args s : List A) (x : A) → ((kept ++ args) ++ x ∷ []) ++ s ≡ kept ++ (args ++ x ∷ s)
 parted_pieces kept args s x = append_assoc (kept ++ args) (x ∷ []) s ∙ append_assoc kept args (x ∷ s)
 
 -- a base with its power
 with_power : (b : Base) (power : Option Power) (opened : List Bracket) (kept : List Piece) (link : Link) → IsLawfulFactor (length opened) (factor b power)
-    → Reads opened kept (by_expected.Factor link) (written_base b) (kept ++ pieces_of_factor link (factor b None)) (behind (last_of_base b))
+    → Reads opened kept (by_expected.Factor link) (written_base b) (kept ++ pieces_of_base link b) (behind (last_of_base b))
     → Reads opened kept (by_expected.Factor link) (written_base b ++ written_power power) (kept ++ pieces_of_factor link (factor b power)) (behind (last_of b power))
 with_power b power opened kept link h reads rest =
     ap (run (at kept opened (by_expected.Factor link))) (append_assoc (written_base b) (written_power power) rest)
@@ -307,24 +336,25 @@ mutual
       ∙ regrouped opened kept (pieces_of_product link p) (pieces_of_factor links.Over (factor b power)) (behind (last_of b power)) rest
 
   reads_base : (b : Base) (opened : List Bracket) (kept : List Piece) (link : Link) → IsLawfulFactor (length opened) (factor b None) → Stands link b
-      → Reads opened kept (by_expected.Factor link) (written_base b) (kept ++ pieces_of_factor link (factor b None)) (behind (last_of_base b))
+      → Reads opened kept (by_expected.Factor link) (written_base b) (kept ++ pieces_of_base link b) (behind (last_of_base b))
   reads_base (number n) opened kept link h k rest = refl
   reads_base (name n) opened kept link h k rest = names_it opened kept link n rest
   reads_base (dot p q) opened kept link h k rest =
       names_it opened kept link p (by_terminal.Period ∷ written_name q ∷ rest)
       ∙ dots opened kept link p (written_name q ∷ rest)
       ∙ ends_dot opened (kept ++ pieces.Dot link p ∷ []) q rest
-      ∙ ap (λ (all : List Piece). run (at all opened (behind last.Base)) rest) (two_pieces kept (pieces.Dot link p) (pieces.EndOfDot q None))
+      ∙ ap (λ (all : List Piece). run (at all opened (behind last.Base)) rest) (two_pieces kept (pieces.Dot link p) (pieces.EndOfDot q))
   reads_base (delta spot a c) opened kept link h k rest =
+      let front = kept ++ pieces.Delta link spot ∷ [] in
       delta_opens opened kept link spot (written_entry a ∷ by_terminal.Comma ∷ written_entry c ∷ by_terminal.Close ∷ rest) (divides link (delta spot a c) no_divisor k) h.0
-      ∙ first_entry opened kept link spot a (written_entry c ∷ by_terminal.Close ∷ rest)
-      ∙ second_entry opened (kept ++ pieces.Delta link spot a ∷ []) c rest
-      ∙ ap (λ (all : List Piece). run (at all opened (behind last.Base)) rest) (two_pieces kept (pieces.Delta link spot a) (pieces.EndOfDelta c None))
+      ∙ first_entry opened front a (written_entry c ∷ by_terminal.Close ∷ rest)
+      ∙ second_entry opened (front ++ piece_of_entry a ∷ []) c rest
+      ∙ ap (λ (all : List Piece). run (at all opened (behind last.Enclosed)) rest) (four_pieces kept (pieces.Delta link spot) (piece_of_entry a) (piece_of_entry c) pieces.EndOfDelta)
   reads_base (empty_call n) opened kept link h k rest =
       names_it opened kept link n (by_terminal.Open ∷ by_terminal.Close ∷ rest)
       ∙ calls opened kept link n (by_terminal.Close ∷ rest) (divides link (empty_call n) no_divisor k) h.0
       ∙ ends_empty opened (kept ++ pieces.Call link n ∷ []) rest
-      ∙ ap (λ (all : List Piece). run (at all opened (behind last.Base)) rest) (two_pieces kept (pieces.Call link n) (pieces.EndOfCall None))
+      ∙ ap (λ (all : List Piece). run (at all opened (behind last.Enclosed)) rest) (two_pieces kept (pieces.Call link n) pieces.EndOfCall)
   reads_base (call n args) opened kept link h k rest =
       let front = kept ++ pieces.Call link n ∷ [] in
       ap (λ (t : List terminals.Terminal). run (at kept opened (by_expected.Factor link)) (written_name n ∷ by_terminal.Open ∷ t)) (enclosed_text (written_arguments args) rest by_terminal.Close)
@@ -332,14 +362,14 @@ mutual
       ∙ calls opened kept link n (written_arguments args ++ by_terminal.Close ∷ rest) (divides link (call n args) no_divisor k) h.0
       ∙ reads_arguments args opened front (subst (λ (m : ℕ). IsLawfulArguments m args) (add-one (length opened)) h.1) (by_terminal.Close ∷ rest)
       ∙ ends_call opened (front ++ pieces_of_arguments args) (last_of_arguments args) rest
-      ∙ ap (λ (all : List Piece). run (at all opened (behind last.Base)) rest) (enclosed_pieces kept (pieces_of_arguments args) (pieces.Call link n) (pieces.EndOfCall None))
+      ∙ ap (λ (all : List Piece). run (at all opened (behind last.Enclosed)) rest) (enclosed_pieces kept (pieces_of_arguments args) (pieces.Call link n) pieces.EndOfCall)
   reads_base (parenthesis s) opened kept link h k rest =
       let front = kept ++ pieces.Open link ∷ [] in
       ap (λ (t : List terminals.Terminal). run (at kept opened (by_expected.Factor link)) (by_terminal.Open ∷ t)) (enclosed_text (written_sum s) rest by_terminal.Close)
       ∙ opens opened kept link (written_sum s ++ by_terminal.Close ∷ rest) (divides link (parenthesis s) no_divisor k) h.0
       ∙ reads_sum s (Parenthesis ∷ opened) front (subst (λ (m : ℕ). IsLawfulSum m s) (add-one (length opened)) h.1) (by_terminal.Close ∷ rest)
       ∙ closes opened (front ++ pieces_of_sum s) (last_of_sum s) rest
-      ∙ ap (λ (all : List Piece). run (at all opened (behind last.Base)) rest) (enclosed_pieces kept (pieces_of_sum s) (pieces.Open link) (pieces.Close None))
+      ∙ ap (λ (all : List Piece). run (at all opened (behind last.Enclosed)) rest) (enclosed_pieces kept (pieces_of_sum s) (pieces.Open link) pieces.Close)
 
   reads_arguments : (args : Arguments) (opened : List Bracket) (kept : List Piece) → IsLawfulArguments (suc (length opened)) args
       → Reads (brackets.Arguments ∷ opened) kept by_expected.Argument (written_arguments args) (kept ++ pieces_of_arguments args) (behind (last_of_arguments args))

@@ -11,7 +11,7 @@ use Rattle.form_ast.specs.declared.expr.Power.{Power}
 use Rattle.form_ast.specs.declared.expr.Piece.{Piece}
 use Rattle.form_ast.specs.declared.expr.Piece.TheVariants as pieces
 use Rattle.form_ast.specs.Building.{Lead, start, after, sum_of, with_argument}
-use Rattle.form_ast.specs.Syntax.{Sum, Product, one, times, over, Factor, factor, Base, number, name, dot, delta, empty_call, call, parenthesis, Arguments, link_of, first_link, pieces_of_sum, pieces_of_product, pieces_of_factor, pieces_of_arguments}
+use Rattle.form_ast.specs.Syntax.{Sum, Product, one, times, over, Factor, factor, Base, number, name, dot, delta, empty_call, call, parenthesis, Arguments, link_of, first_link, piece_of_entry, pieces_of_sum, pieces_of_product, pieces_of_factor, pieces_of_arguments}
 use Rattle.form_ast.specs.Lawful.{most_open, IsDivisor, IsLawfulSum, IsLawfulProduct, IsLawfulFactor, IsLawfulArguments}
 use Rattle.form_grammar.specs.declared.brackets.Bracket.{Bracket}
 use Rattle.form_grammar.specs.declared.brackets.Bracket.TheVariants as brackets_by
@@ -20,6 +20,7 @@ use Rattle.form_grammar.specs.declared.terminal.Terminal.TheVariants as by_termi
 use Rattle.form_grammar.specs.declared.effect.Last as lasts
 use Rattle.form_grammar.specs.declared.effect.Last.TheVariants as last
 use Rattle.form_grammar.specs.declared.effect.Expected.TheVariants as by_expected
+use Rattle.form_grammar.specs.Effect.{is_enclosed}
 use Rattle.form_grammar.specs.Grammar.{written_sum, written_product, written_factor, written_base, written_sign, written_name, written_entry, written_arguments}
 use Rattle.form_grammar.specs.Reading.{Reading}
 
@@ -88,8 +89,10 @@ depth around = length (brackets around)
 
 -- the last thing of a base, and of a factor
 abbrev pub last_of_base : Base → lasts.Last
+last_of_base (number n) = last.Base
 last_of_base (name n) = last.Name
-last_of_base _ = last.Base
+last_of_base (dot p q) = last.Base
+last_of_base _ = last.Enclosed
 
 abbrev pub last_behind : lasts.Last → Option Power → lasts.Last
 last_behind l None = l
@@ -130,17 +133,18 @@ abbrev pub reading_at : Place → Reading
 reading_at (at_factor around b) = record { pieces = kept_around around ++ kept_before b; opened = brackets around; expected = by_expected.Factor (link_before b) }
 reading_at (at_argument around b n) = record { pieces = kept_around (in_arguments b n None ∷ around) ++ []; opened = brackets (in_arguments b n None ∷ around); expected = by_expected.Argument }
 reading_at (at_exponent around b base is_parenthesized sign) =
-    record { pieces = kept_factor around b (factor base None); opened = brackets around; expected = by_expected.Exponent is_parenthesized sign }
+    record { pieces = kept_factor around b (factor base None); opened = brackets around; expected = by_expected.Exponent (is_enclosed (last_of_base base)) is_parenthesized sign }
 reading_at (at_closing around b base sign n) =
     record { pieces = kept_factor around b (factor base (Some (record { is_parenthesized = true; sign = sign; number = n }))); opened = brackets around; expected = by_expected.Closing }
 reading_at (at_operator around b base power) =
     record { pieces = kept_factor around b (factor base power); opened = brackets around; expected = by_expected.Operator (last_of base power) }
 reading_at (at_vector around b p) = record { pieces = kept_to around b (pieces.Dot (link_before b) p ∷ []); opened = brackets around; expected = by_expected.Vector }
-reading_at (at_delta around b spot) = record { pieces = kept_around around ++ kept_before b; opened = brackets around; expected = by_expected.Delta (link_before b) spot }
-reading_at (at_first_entry around b spot) = record { pieces = kept_around around ++ kept_before b; opened = brackets around; expected = by_expected.FirstEntry (link_before b) spot }
-reading_at (at_comma around b spot a) = record { pieces = kept_to around b (pieces.Delta (link_before b) spot a ∷ []); opened = brackets around; expected = by_expected.EntryComma }
-reading_at (at_second_entry around b spot a) = record { pieces = kept_to around b (pieces.Delta (link_before b) spot a ∷ []); opened = brackets around; expected = by_expected.SecondEntry }
-reading_at (at_delta_closing around b spot a c) = record { pieces = kept_factor around b (factor (delta spot a c) None); opened = brackets around; expected = by_expected.DeltaClosing }
+reading_at (at_delta around b spot) = record { pieces = kept_to around b (pieces.Delta (link_before b) spot ∷ []); opened = brackets around; expected = by_expected.Delta }
+reading_at (at_first_entry around b spot) = record { pieces = kept_to around b (pieces.Delta (link_before b) spot ∷ []); opened = brackets around; expected = by_expected.FirstEntry }
+reading_at (at_comma around b spot a) = record { pieces = kept_to around b (pieces.Delta (link_before b) spot ∷ piece_of_entry a ∷ []); opened = brackets around; expected = by_expected.EntryComma }
+reading_at (at_second_entry around b spot a) = record { pieces = kept_to around b (pieces.Delta (link_before b) spot ∷ piece_of_entry a ∷ []); opened = brackets around; expected = by_expected.SecondEntry }
+reading_at (at_delta_closing around b spot a c) =
+    record { pieces = kept_to around b (pieces.Delta (link_before b) spot ∷ piece_of_entry a ∷ piece_of_entry c ∷ []); opened = brackets around; expected = by_expected.DeltaClosing }
 
 -- how it is written
 abbrev pub written_lead : Lead → List Terminal
@@ -303,35 +307,3 @@ written_all_arguments (Some args) s = append_assoc (written_arguments args) (by_
 pub lawful_arguments : (opened : ℕ) (args : Option Arguments) (s : Sum) → IsLawfulParted opened args → IsLawfulSum opened s → IsLawfulArguments opened (with_argument args s)
 lawful_arguments opened None s h k = k
 lawful_arguments opened (Some args) s h k = (h, k)
-
--- ---- the last piece of a factor, on which its power is kept
-
-abbrev pub front_pieces : Link → Base → List Piece
-front_pieces link (number n) = []
-front_pieces link (name n) = []
-front_pieces link (dot p q) = pieces.Dot link p ∷ []
-front_pieces link (delta spot a c) = pieces.Delta link spot a ∷ []
-front_pieces link (empty_call n) = pieces.Call link n ∷ []
-front_pieces link (call n args) = pieces.Call link n ∷ pieces_of_arguments args
-front_pieces link (parenthesis s) = pieces.Open link ∷ pieces_of_sum s
-
-abbrev pub end_piece : Link → Base → Option Power → Piece
-end_piece link (number n) power = pieces.Number link n power
-end_piece link (name n) power = pieces.Name link n power
-end_piece link (dot p q) power = pieces.EndOfDot q power
-end_piece link (delta spot a c) power = pieces.EndOfDelta c power
-end_piece link (empty_call n) power = pieces.EndOfCall power
-end_piece link (call n args) power = pieces.EndOfCall power
-end_piece link (parenthesis s) power = pieces.Close power
-
-pub ends_so : (link : Link) (base : Base) (power : Option Power) → pieces_of_factor link (factor base power) ≡ front_pieces link base ++ end_piece link base power ∷ []
-ends_so link (number n) power = refl
-ends_so link (name n) power = refl
-ends_so link (dot p q) power = refl
-ends_so link (delta spot a c) power = refl
-ends_so link (empty_call n) power = refl
-ends_so link (call n args) power = refl
-ends_so link (parenthesis s) power = refl
-
-pub ends_behind : (front : List Piece) (link : Link) (base : Base) (power : Option Power) → front ++ pieces_of_factor link (factor base power) ≡ (front ++ front_pieces link base) ++ end_piece link base power ∷ []
-ends_behind front link base power = ap (λ (all : List Piece). front ++ all) (ends_so link base power) ∙ sym (append_assoc front (front_pieces link base) (end_piece link base power ∷ []))

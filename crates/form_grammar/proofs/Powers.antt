@@ -5,7 +5,7 @@ use Rattle.form_ast.specs.declared.expr.Sign.{Sign}
 use Rattle.form_ast.specs.declared.expr.Sign.TheVariants.{Plus, Minus}
 use Rattle.form_ast.specs.declared.expr.Power.{Power}
 use Rattle.form_ast.specs.Lawful.{IsNegative}
-use Rattle.form_grammar.specs.Reading.{is_negative}
+use Rattle.form_grammar.specs.Effect.{is_negative}
 
 is_zero : (b : Bool) → cond b false true ≡ false → b ≡ true
 is_zero true e = refl

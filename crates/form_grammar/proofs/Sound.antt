@@ -1,5 +1,5 @@
 -- What is read whole is a lawful right side.
-use Rattle.std.proofs.Common.{◌≡◌, ◌⊎◌, inl, inr, ◌+◌, ◌<◌, Bool, true, false, List, [], ◌∷◌, ◌++◌, Option, Some, None, option_map, option_and_then, refl, sym, ap, subst, ◌∙◌, append_assoc, add-one, cond, ltb}
+use Rattle.std.proofs.Common.{◌≡◌, ◌⊎◌, inl, inr, ◌+◌, ◌<◌, Bool, true, false, ◌&&◌, List, [], ◌∷◌, ◌++◌, Option, Some, None, option_map, option_and_then, refl, sym, ap, subst, ◌∙◌, append_assoc, add-one, cond, ltb}
 use Rattle.std.proofs.lemmas.Bool.{ltb-true}
 use Rattle.std.proofs.lemmas.List.{append-nil}
 use Rattle.std.proofs.lemmas.Option.{same_Some, none-some}
@@ -16,7 +16,7 @@ use Rattle.form_ast.specs.declared.expr.Power.{Power}
 use Rattle.form_ast.specs.declared.expr.Piece.{Piece}
 use Rattle.form_ast.specs.declared.expr.Piece.TheVariants as pieces
 use Rattle.form_ast.specs.Building.{start, after, with_argument}
-use Rattle.form_ast.specs.Syntax.{Sum, Factor, factor, Base, number, name, dot, delta, empty_call, call, parenthesis, Arguments, link_of, pieces_of_sum, pieces_of_factor, pieces_of_arguments}
+use Rattle.form_ast.specs.Syntax.{Sum, Factor, factor, Base, number, name, dot, delta, empty_call, call, parenthesis, Arguments, link_of, piece_of_entry, piece_of_power, pieces_of_sum, pieces_of_factor, pieces_of_base, pieces_of_arguments}
 use Rattle.form_ast.specs.Lawful.{most_open, IsLawfulSum, IsLawfulFactor, IsLawfulArguments}
 use Rattle.form_grammar.specs.declared.brackets.Bracket.{Bracket}
 use Rattle.form_grammar.specs.declared.brackets.Bracket.TheVariants as brackets_by
@@ -29,11 +29,11 @@ use Rattle.form_grammar.specs.declared.effect.Effect.{Effect}
 use Rattle.form_grammar.specs.declared.effect.Effect.TheVariants as by_effect
 use Rattle.form_grammar.specs.declared.reader.Change.{Change}
 use Rattle.form_grammar.specs.declared.reader.Change.TheVariants as changes
-use Rattle.form_grammar.specs.Effect.{unless_over, first_sign_effect}
+use Rattle.form_grammar.specs.Effect.{unless_over, first_sign_effect, is_enclosed, is_negative, behind_number, power_effect}
 use Rattle.form_grammar.specs.Grammar.{written_sum, written_product, written_factor, written_base, written_sign, written_name, written_entry, written_arguments, IsExpr}
 use Rattle.form_grammar.specs.Reading.{Reading, begun, changed, with_last, changed_reading, applied, step, finished, run}
 use Rattle.form_grammar.specs.Reading as readings
-use Rattle.form_grammar.proofs.Lasts.{Allowed, raised_factor, lawful_raised, base_may_raise, mapped}
+use Rattle.form_grammar.proofs.Lasts.{Allowed, lawful_raised, base_may_raise, mapped}
 use Rattle.form_grammar.proofs.Raised.{changed_last}
 use Rattle.form_grammar.proofs.Places.{Before, lead, by_times, by_over, Outer, in_parenthesis, in_arguments, Place, at_factor, at_argument, at_exponent, at_closing, at_operator, at_vector, at_delta, at_first_entry, at_comma, at_second_entry, at_delta_closing, link_before, lead_of, product_of, sum_to, brackets, depth, last_of_base, kept_before, kept_parted, kept_around, kept_to, kept_factor, reading_at, written_lead, written_before, written_parted, written_around, written_to, written_at, Fits, TakesParenthesis, IsLawfulTo, IsLawfulAt, written_whole, kept_filled, kept_whole, lawful_product, lawful_lead, lawful_whole, written_filled, kept_arguments, written_all_arguments, lawful_arguments}
 
@@ -171,16 +171,16 @@ open_at_factor around b next h e = by_kind (opening b) where
       }
 
 delta_at_factor : (around : List Outer) (b : Before) (spot : Spot) (next : Reading) → IsLawfulAt (at_factor around b)
-    → applied (reading_at (at_factor around b)) (unless_over (link_before b) (by_effect.Waits (by_expected.Delta (link_before b) spot))) ≡ Some next → GoesOn (at_factor around b) (by_terminal.Delta spot) next
+    → applied (reading_at (at_factor around b)) (unless_over (link_before b) (by_effect.Adds (pieces.Delta (link_before b) spot) by_expected.Delta)) ≡ Some next → GoesOn (at_factor around b) (by_terminal.Delta spot) next
 delta_at_factor around b spot next h e = by_kind (opening b) where
   by_kind : Takes b ⊎ TakesNone b → GoesOn (at_factor around b) (by_terminal.Delta spot) next
-  by_kind (inr f) = let g = rw (f.effect (by_effect.Waits (by_expected.Delta (link_before b) spot))) at e in absurd cc
+  by_kind (inr f) = let g = rw (f.effect (by_effect.Adds (pieces.Delta (link_before b) spot) by_expected.Delta)) at e in absurd cc
   by_kind (inl t) =
-      let g = rw (t.effect (by_effect.Waits (by_expected.Delta (link_before b) spot))) at e in
+      let g = rw (t.effect (by_effect.Adds (pieces.Delta (link_before b) spot) by_expected.Delta)) at e in
       record {
         there = at_delta around b spot;
         lawful = record { lawful_around = h.0; lawful_before = h.1; takes = t.takes };
-        kept = sym (same_Some _ next g);
+        kept = sym (same_Some _ next g) ∙ ap (λ (kept : List Piece). at kept (brackets around) by_expected.Delta) (marked (kept_around around) (kept_before b) (pieces.Delta (link_before b) spot));
         written = marked (written_around around) (written_before b) (by_terminal.Delta spot);
       }
 
@@ -198,11 +198,11 @@ plain_at_factor around b base t piece next h w p l f e = record {
 from_factor : (around : List Outer) (b : Before) (t : Terminal) (next : Reading) → IsLawfulAt (at_factor around b)
     → step (reading_at (at_factor around b)) t ≡ Some next → GoesOn (at_factor around b) t next
 from_factor around b (by_terminal.Number n) next h e =
-    plain_at_factor around b (number n) (by_terminal.Number n) (pieces.Number (link_before b) n None) next h refl refl tt (fits_number b n) e
+    plain_at_factor around b (number n) (by_terminal.Number n) (pieces.Number (link_before b) n) next h refl refl tt (fits_number b n) e
 from_factor around b (by_terminal.Name n) next h e =
-    plain_at_factor around b (name (names.Declared n)) (by_terminal.Name n) (pieces.Name (link_before b) (names.Declared n) None) next h refl refl tt (fits_name b (names.Declared n)) e
+    plain_at_factor around b (name (names.Declared n)) (by_terminal.Name n) (pieces.Name (link_before b) (names.Declared n)) next h refl refl tt (fits_name b (names.Declared n)) e
 from_factor around b (by_terminal.Imaginary spot) next h e =
-    plain_at_factor around b (name (names.Imaginary spot)) (by_terminal.Imaginary spot) (pieces.Name (link_before b) (names.Imaginary spot) None) next h refl refl tt (fits_name b (names.Imaginary spot)) e
+    plain_at_factor around b (name (names.Imaginary spot)) (by_terminal.Imaginary spot) (pieces.Name (link_before b) (names.Imaginary spot)) next h refl refl tt (fits_name b (names.Imaginary spot)) e
 from_factor around b (by_terminal.Delta spot) next h e = delta_at_factor around b spot next h e
 from_factor around b (by_terminal.Sign sign) next h e = sign_at_factor around b sign next h e
 from_factor around b by_terminal.Open next h e = open_at_factor around b next h e
@@ -222,7 +222,7 @@ end_at_argument : (around : List Outer) (b : Before) (n : Named) (next : Reading
 end_at_argument around b n next h e = record {
   there = at_operator around b (empty_call n) None;
   lawful = record { lawful_around = h.4; lawful_before = h.0; lawful_factor = (h.2, tt, tt); fits = fits_taken b (factor (empty_call n) None) h.1 };
-  kept = sym (same_Some _ next e) ∙ ap (λ (kept : List Piece). at kept (brackets around) (by_expected.Operator last.Base)) (emptied (kept_around around) (kept_before b) (pieces.Call (link_before b) n) (pieces.EndOfCall None));
+  kept = sym (same_Some _ next e) ∙ ap (λ (kept : List Piece). at kept (brackets around) (by_expected.Operator last.Enclosed)) (emptied (kept_around around) (kept_before b) (pieces.Call (link_before b) n) pieces.EndOfCall);
   written = emptied_text (written_around around) (written_before b) (written_name n) by_terminal.Open by_terminal.Close;
 }
 
@@ -249,15 +249,6 @@ from_argument around b n by_terminal.Other next h e = as_factor around b n by_te
 
 -- ---- powers
 
-raised_to : (around : List Outer) (b : Before) (base : Base) (p : Power) (kept : List Piece) → with_last (changes.Power p) (kept_factor around b (factor base None)) ≡ Some kept
-    → (kept_factor around b (factor base (Some p)) ≡ kept) × Allowed base p
-raised_to around b base p kept e =
-    let front : List Piece = kept_around around ++ kept_before b in
-    let split = append_assoc (kept_around around) (kept_before b) (pieces_of_factor (link_before b) (factor base None)) in
-    let joined = append_assoc (kept_around around) (kept_before b) (pieces_of_factor (link_before b) (factor base (Some p))) in
-    let r = raised_factor front (link_before b) base p kept (ap (with_last (changes.Power p)) split ∙ e) in
-    (sym joined ∙ r.0, r.1)
-
 lawful_power : (around : List Outer) (b : Before) (base : Base) (p : Power) → IsLawfulTo around b (factor base None) → (p.is_parenthesized ≡ true → depth around < most_open) → Allowed base p → IsLawfulTo around b (factor base (Some p))
 lawful_power around b base p h room a = record {
   lawful_around = h.lawful_around;
@@ -273,34 +264,36 @@ written_power_to around b base text = written_around around ++ (written_before b
 written_further : (around : List Outer) (b : Before) (base : Base) (front text : List Terminal) → written_power_to around b base front ++ text ≡ written_power_to around b base (front ++ text)
 written_further around b base front text = fourth (written_around around) (written_before b) (written_base base) (by_terminal.Raise ∷ front) text
 
--- what a power makes of the pieces, and what is expected then
-raised_reading : (around : List Outer) (b : Before) (base : Base) (p : Power) (expected : Expected) (next : Reading) (r : Reading) → r.pieces ≡ kept_factor around b (factor base None) → r.opened ≡ brackets around
-    → option_map (λ n. at n.pieces n.opened expected) (changed_reading (changes.Power p) r) ≡ Some next
-    → (next ≡ at (kept_factor around b (factor base (Some p))) (brackets around) expected) × Allowed base p
-raised_reading around b base p expected next r same opened e =
-    let m = mapped (λ n. at n.pieces n.opened expected) (changed_reading (changes.Power p) r) next e in
-    let k = mapped (λ kept. at kept r.opened r.expected) (with_last (changes.Power p) r.pieces) m.0 m.1 in
-    let q = raised_to around b base p k.0 (ap (with_last (changes.Power p)) (sym same) ∙ k.1) in
-    (sym m.2 ∙ ap (λ (n : Reading). at n.pieces n.opened expected) (sym k.2) ∙ ap (λ (kept : List Piece). at kept r.opened expected) (sym q.0) ∙ ap (λ (o : List Bracket). at (kept_factor around b (factor base (Some p))) o expected) opened, q.1)
+-- a power is a piece, and may stand there
+raised_reading : (r : Reading) (is_on_enclosed : Bool) (p : Power) (next : Reading) → applied r (power_effect is_on_enclosed p) ≡ Some next
+    → (next ≡ at (r.pieces ++ piece_of_power p ∷ []) r.opened (behind_number p.is_parenthesized)) × ((is_on_enclosed && is_negative p) ≡ false)
+raised_reading r is_on_enclosed p next e = split (is_on_enclosed && is_negative p) refl e where
+  split : (b : Bool) → (is_on_enclosed && is_negative p) ≡ b → applied r (cond b by_effect.Fails (by_effect.Adds (piece_of_power p) (behind_number p.is_parenthesized))) ≡ Some next
+      → (next ≡ at (r.pieces ++ piece_of_power p ∷ []) r.opened (behind_number p.is_parenthesized)) × ((is_on_enclosed && is_negative p) ≡ false)
+  split true is f = absurd cc
+  split false is f = (sym (same_Some _ next f), is)
+
+kept_raised : (around : List Outer) (b : Before) (base : Base) (p : Power) → kept_factor around b (factor base None) ++ piece_of_power p ∷ [] ≡ kept_factor around b (factor base (Some p))
+kept_raised around b base p = third (kept_around around) (kept_before b) (pieces_of_base (link_before b) base) (piece_of_power p ∷ [])
 
 number_at_exponent : (around : List Outer) (b : Before) (base : Base) (is_parenthesized : Bool) (sign : Option Sign) (n : Number) (next : Reading) → IsLawfulAt (at_exponent around b base is_parenthesized sign)
     → step (reading_at (at_exponent around b base is_parenthesized sign)) (by_terminal.Number n) ≡ Some next → GoesOn (at_exponent around b base is_parenthesized sign) (by_terminal.Number n) next
 number_at_exponent around b base true sign n next h e =
     let p : Power = record { is_parenthesized = true; sign = sign; number = n } in
-    let r = raised_reading around b base p by_expected.Closing next (reading_at (at_exponent around b base true sign)) refl refl e in
+    let r = raised_reading (reading_at (at_exponent around b base true sign)) (is_enclosed (last_of_base base)) p next e in
     record {
       there = at_closing around b base sign n;
       lawful = lawful_power around b base p h.0 h.1 r.1;
-      kept = r.0;
+      kept = r.0 ∙ ap (λ (kept : List Piece). at kept (brackets around) by_expected.Closing) (kept_raised around b base p);
       written = written_further around b base (by_terminal.Open ∷ written_sign sign) (by_terminal.Number n ∷ []);
     }
 number_at_exponent around b base false sign n next h e =
     let p : Power = record { is_parenthesized = false; sign = sign; number = n } in
-    let r = raised_reading around b base p (by_expected.Operator last.Power) next (reading_at (at_exponent around b base false sign)) refl refl e in
+    let r = raised_reading (reading_at (at_exponent around b base false sign)) (is_enclosed (last_of_base base)) p next e in
     record {
       there = at_operator around b base (Some p);
       lawful = lawful_power around b base p h.0 h.1 r.1;
-      kept = r.0;
+      kept = r.0 ∙ ap (λ (kept : List Piece). at kept (brackets around) (by_expected.Operator last.Power)) (kept_raised around b base p);
       written = written_further around b base (written_sign sign) (by_terminal.Number n ∷ []);
     }
 
@@ -323,7 +316,7 @@ sign_at_exponent around b base is_parenthesized (Some other) s next h e = absurd
 open_at_exponent : (around : List Outer) (b : Before) (base : Base) (is_parenthesized : Bool) (sign : Option Sign) (next : Reading) → IsLawfulAt (at_exponent around b base is_parenthesized sign)
     → step (reading_at (at_exponent around b base is_parenthesized sign)) by_terminal.Open ≡ Some next → GoesOn (at_exponent around b base is_parenthesized sign) by_terminal.Open next
 open_at_exponent around b base false None next h e =
-    let made = at (kept_factor around b (factor base None)) (brackets around) (by_expected.Exponent true None) in
+    let made = at (kept_factor around b (factor base None)) (brackets around) (by_expected.Exponent (is_enclosed (last_of_base base)) true None) in
     let k = passes (ltb (depth around) 64) (Some made) next e in
     record {
       there = at_exponent around b base true None;
@@ -432,11 +425,11 @@ raise_at_operator around b base (Some p) next h e = absurd cc
 
 -- ---- a name with what follows it
 
-name_changed : (c : Change) (around : List Outer) (b : Before) (n : Named) (o : Option Piece) → changed c (pieces.Name (link_before b) n None) ≡ o
+name_changed : (c : Change) (around : List Outer) (b : Before) (n : Named) (o : Option Piece) → changed c (pieces.Name (link_before b) n) ≡ o
     → with_last c (kept_factor around b (factor (name n) None)) ≡ option_map (λ y. kept_to around b (y ∷ [])) o
 name_changed c around b n o e =
     let front : List Piece = kept_around around ++ kept_before b in
-    let x : Piece = pieces.Name (link_before b) n None in
+    let x : Piece = pieces.Name (link_before b) n in
     ap (with_last c) (sym (append_assoc (kept_around around) (kept_before b) (x ∷ []))) ∙ changed_last c front x ∙ ap (option_map (λ y. front ++ y ∷ [])) e ∙ regroup o
   where
     regroup : (o : Option Piece) → option_map (λ y. (kept_around around ++ kept_before b) ++ y ∷ []) o ≡ option_map (λ y. kept_to around b (y ∷ [])) o
@@ -504,10 +497,10 @@ call_at_operator around b (parenthesis s) (Some p) next h e = absurd cc
 -- ---- what ends a parenthesis
 
 kept_closed : (around : List Outer) (c b : Before) (base : Base) (power : Option Power)
-    → kept_factor (in_parenthesis c ∷ around) b (factor base power) ++ pieces.Close None ∷ [] ≡ kept_factor around c (factor (parenthesis (sum_to b (factor base power))) None)
+    → kept_factor (in_parenthesis c ∷ around) b (factor base power) ++ pieces.Close ∷ [] ≡ kept_factor around c (factor (parenthesis (sum_to b (factor base power))) None)
 kept_closed around c b base power =
-    ap (λ (all : List Piece). all ++ pieces.Close None ∷ []) (kept_up (in_parenthesis c ∷ around) b base power)
-    ∙ closed_up (kept_around around) (kept_before c) (pieces_of_sum (sum_to b (factor base power))) (pieces.Open (link_before c)) (pieces.Close None)
+    ap (λ (all : List Piece). all ++ pieces.Close ∷ []) (kept_up (in_parenthesis c ∷ around) b base power)
+    ∙ closed_up (kept_around around) (kept_before c) (pieces_of_sum (sum_to b (factor base power))) (pieces.Open (link_before c)) pieces.Close
 
 written_closed : (around : List Outer) (c : Before) (s : Sum)
     → written_around (in_parenthesis c ∷ around) ++ (written_sum s ++ by_terminal.Close ∷ []) ≡ written_around around ++ (written_before c ++ written_factor (factor (parenthesis s) None))
@@ -545,7 +538,7 @@ close_at_operator (in_parenthesis c ∷ around) b base power next h e =
         lawful_factor = (h.lawful_around.2, sum, tt, tt);
         fits = fits_taken c (factor (parenthesis s) None) h.lawful_around.1;
       };
-      kept = sym (same_Some _ next e) ∙ ap (λ (all : List Piece). at all (brackets around) (by_expected.Operator last.Base)) (kept_closed around c b base power);
+      kept = sym (same_Some _ next e) ∙ ap (λ (all : List Piece). at all (brackets around) (by_expected.Operator last.Enclosed)) (kept_closed around c b base power);
       written = written_up (in_parenthesis c ∷ around) b base power (by_terminal.Close ∷ []) ∙ written_closed around c s;
     }
 close_at_operator (in_arguments c n args ∷ around) b base power next h e =
@@ -561,7 +554,7 @@ close_at_operator (in_arguments c n args ∷ around) b base power next h e =
         lawful_factor = (h.lawful_around.2, lawful, tt, tt);
         fits = fits_taken c (factor (call n all) None) h.lawful_around.1;
       };
-      kept = sym (same_Some _ next e) ∙ ap (λ (kept : List Piece). at kept (brackets around) (by_expected.Operator last.Base)) (kept_argued around c b n args base power (pieces.EndOfCall None));
+      kept = sym (same_Some _ next e) ∙ ap (λ (kept : List Piece). at kept (brackets around) (by_expected.Operator last.Enclosed)) (kept_argued around c b n args base power pieces.EndOfCall);
       written = written_argued around c b n args base power by_terminal.Close
           ∙ ap (λ (text : List Terminal). written_to around c text) (sym (append-nil (written_base (call n all))));
     }
@@ -603,11 +596,11 @@ from_operator around b base power by_terminal.Other next h e = absurd cc
 -- ---- in a dot product and in `d_`
 
 vector_read : (around : List Outer) (b : Before) (p q : Named) (next : Reading) → IsLawfulAt (at_vector around b p)
-    → Some (at (kept_to around b (pieces.Dot (link_before b) p ∷ []) ++ pieces.EndOfDot q None ∷ []) (brackets around) (by_expected.Operator last.Base)) ≡ Some next → GoesOn (at_vector around b p) (written_name q) next
+    → Some (at (kept_to around b (pieces.Dot (link_before b) p ∷ []) ++ pieces.EndOfDot q ∷ []) (brackets around) (by_expected.Operator last.Base)) ≡ Some next → GoesOn (at_vector around b p) (written_name q) next
 vector_read around b p q next h e = record {
   there = at_operator around b (dot p q) None;
   lawful = record { lawful_around = h.0; lawful_before = h.1; lawful_factor = tt; fits = fits_dot b p q };
-  kept = sym (same_Some _ next e) ∙ ap (λ (kept : List Piece). at kept (brackets around) (by_expected.Operator last.Base)) (third (kept_around around) (kept_before b) (pieces.Dot (link_before b) p ∷ []) (pieces.EndOfDot q None ∷ []));
+  kept = sym (same_Some _ next e) ∙ ap (λ (kept : List Piece). at kept (brackets around) (by_expected.Operator last.Base)) (third (kept_around around) (kept_before b) (pieces.Dot (link_before b) p ∷ []) (pieces.EndOfDot q ∷ []));
   written = third (written_around around) (written_before b) (written_name p ∷ by_terminal.Period ∷ []) (written_name q ∷ []);
 }
 
@@ -631,7 +624,7 @@ from_vector around b p by_terminal.Other next h e = absurd cc
 from_delta : (around : List Outer) (b : Before) (spot : Spot) (t : Terminal) (next : Reading) → IsLawfulAt (at_delta around b spot)
     → step (reading_at (at_delta around b spot)) t ≡ Some next → GoesOn (at_delta around b spot) t next
 from_delta around b spot by_terminal.Open next h e =
-    let made = at (kept_around around ++ kept_before b) (brackets around) (by_expected.FirstEntry (link_before b) spot) in
+    let made = at (kept_to around b (pieces.Delta (link_before b) spot ∷ [])) (brackets around) by_expected.FirstEntry in
     let k = passes (ltb (depth around) 64) (Some made) next e in
     record {
       there = at_first_entry around b spot;
@@ -654,11 +647,11 @@ from_delta around b spot by_terminal.Equals next h e = absurd cc
 from_delta around b spot by_terminal.Other next h e = absurd cc
 
 first_entry_read : (around : List Outer) (b : Before) (spot : Spot) (a : Entry) (next : Reading) → IsLawfulAt (at_first_entry around b spot)
-    → Some (at ((kept_around around ++ kept_before b) ++ pieces.Delta (link_before b) spot a ∷ []) (brackets around) by_expected.EntryComma) ≡ Some next → GoesOn (at_first_entry around b spot) (written_entry a) next
+    → Some (at (kept_to around b (pieces.Delta (link_before b) spot ∷ []) ++ piece_of_entry a ∷ []) (brackets around) by_expected.EntryComma) ≡ Some next → GoesOn (at_first_entry around b spot) (written_entry a) next
 first_entry_read around b spot a next h e = record {
   there = at_comma around b spot a;
   lawful = h;
-  kept = sym (same_Some _ next e) ∙ ap (λ (kept : List Piece). at kept (brackets around) by_expected.EntryComma) (marked (kept_around around) (kept_before b) (pieces.Delta (link_before b) spot a));
+  kept = sym (same_Some _ next e) ∙ ap (λ (kept : List Piece). at kept (brackets around) by_expected.EntryComma) (third (kept_around around) (kept_before b) (pieces.Delta (link_before b) spot ∷ []) (piece_of_entry a ∷ []));
   written = third (written_around around) (written_before b) (by_terminal.Delta spot ∷ by_terminal.Open ∷ []) (written_entry a ∷ []);
 }
 
@@ -702,11 +695,11 @@ from_comma around b spot a by_terminal.Equals next h e = absurd cc
 from_comma around b spot a by_terminal.Other next h e = absurd cc
 
 second_entry_read : (around : List Outer) (b : Before) (spot : Spot) (a c : Entry) (next : Reading) → IsLawfulAt (at_second_entry around b spot a)
-    → Some (at (kept_to around b (pieces.Delta (link_before b) spot a ∷ []) ++ pieces.EndOfDelta c None ∷ []) (brackets around) by_expected.DeltaClosing) ≡ Some next → GoesOn (at_second_entry around b spot a) (written_entry c) next
+    → Some (at (kept_to around b (pieces.Delta (link_before b) spot ∷ piece_of_entry a ∷ []) ++ piece_of_entry c ∷ []) (brackets around) by_expected.DeltaClosing) ≡ Some next → GoesOn (at_second_entry around b spot a) (written_entry c) next
 second_entry_read around b spot a c next h e = record {
   there = at_delta_closing around b spot a c;
   lawful = h;
-  kept = sym (same_Some _ next e) ∙ ap (λ (kept : List Piece). at kept (brackets around) by_expected.DeltaClosing) (third (kept_around around) (kept_before b) (pieces.Delta (link_before b) spot a ∷ []) (pieces.EndOfDelta c None ∷ []));
+  kept = sym (same_Some _ next e) ∙ ap (λ (kept : List Piece). at kept (brackets around) by_expected.DeltaClosing) (third (kept_around around) (kept_before b) (pieces.Delta (link_before b) spot ∷ piece_of_entry a ∷ []) (piece_of_entry c ∷ []));
   written = third (written_around around) (written_before b) (by_terminal.Delta spot ∷ by_terminal.Open ∷ written_entry a ∷ by_terminal.Comma ∷ []) (written_entry c ∷ []);
 }
 
@@ -732,7 +725,7 @@ from_delta_closing : (around : List Outer) (b : Before) (spot : Spot) (a c : Ent
 from_delta_closing around b spot a c by_terminal.Close next h e = record {
   there = at_operator around b (delta spot a c) None;
   lawful = record { lawful_around = h.0.lawful_around; lawful_before = h.0.lawful_before; lawful_factor = (h.1, tt, tt); fits = fits_taken b (factor (delta spot a c) None) h.0.takes };
-  kept = sym (same_Some _ next e);
+  kept = sym (same_Some _ next e) ∙ ap (λ (kept : List Piece). at kept (brackets around) (by_expected.Operator last.Enclosed)) (third (kept_around around) (kept_before b) (pieces.Delta (link_before b) spot ∷ piece_of_entry a ∷ piece_of_entry c ∷ []) (pieces.EndOfDelta ∷ []));
   written = third (written_around around) (written_before b) (by_terminal.Delta spot ∷ by_terminal.Open ∷ written_entry a ∷ by_terminal.Comma ∷ written_entry c ∷ []) (by_terminal.Close ∷ []);
 }
 from_delta_closing around b spot a c (by_terminal.Number m) next h e = absurd cc

@@ -1,14 +1,14 @@
 -- What each terminal of a right side does, by what is expected.
-use Rattle.std.specs.Prelude.{Bool, true, false, Option, Some, None}
-use Rattle.form_base.specs.declared.spot.Spot.{Spot}
+use Rattle.std.specs.Prelude.{Bool, true, false, ◌==◌, ◌&&◌, if◌then◌else◌, Option, Some, None}
 use Rattle.form_ast.specs.declared.expr.Sign as signs
+use Rattle.form_ast.specs.declared.expr.Sign.TheVariants.{Minus}
+use Rattle.form_ast.specs.declared.expr.Power as powers
 use Rattle.form_ast.specs.declared.expr.Link as links
 use Rattle.form_ast.specs.declared.expr.Link.TheVariants as by_link
 use Rattle.form_ast.specs.declared.expr.Named.TheVariants.{Declared}
 use Rattle.form_ast.specs.declared.expr.Named.TheVariants as names
-use Rattle.form_ast.specs.declared.expr.Entry.TheVariants as entries
 use Rattle.form_ast.specs.declared.expr.Piece.TheVariants as piece
-use Rattle.form_ast.specs.Syntax.{link_of}
+use Rattle.form_ast.specs.Syntax.{link_of, piece_of_power}
 use Rattle.form_grammar.specs.declared.terminal.Terminal.{Terminal}
 use Rattle.form_grammar.specs.declared.terminal.Terminal.TheVariants.{Number, Name, Imaginary, Delta, Sign, Times, Over, Raise, Open, Close, Comma, Period}
 use Rattle.form_grammar.specs.declared.effect.Last as lasts
@@ -17,7 +17,7 @@ use Rattle.form_grammar.specs.declared.effect.Expected.{Expected}
 use Rattle.form_grammar.specs.declared.effect.Expected.TheVariants.{Factor, Argument, Exponent, Closing, Operator, Vector, FirstEntry, EntryComma, SecondEntry, DeltaClosing}
 use Rattle.form_grammar.specs.declared.effect.Expected.TheVariants as expected
 use Rattle.form_grammar.specs.declared.effect.Effect.{Effect}
-use Rattle.form_grammar.specs.declared.effect.Effect.TheVariants.{Waits, Adds, Opens, Encloses, Calls, Closes, Parts, Raises, Dots, Fails}
+use Rattle.form_grammar.specs.declared.effect.Effect.TheVariants.{Waits, Adds, Opens, Encloses, Calls, Closes, Parts, Dots, Fails}
 
 -- what has parentheses doesn't stand behind `/`
 abbrev pub unless_over : links.Link → Effect → Effect
@@ -29,35 +29,57 @@ first_sign_effect by_link.First sign = Waits (Factor (link_of sign))
 first_sign_effect _ sign = Fails
 
 abbrev pub factor_effect : links.Link → Terminal → Effect
-factor_effect link (Number n) = Adds (piece.Number link n None) (Operator last.Base)
-factor_effect link (Name n) = Adds (piece.Name link (Declared n) None) (Operator last.Name)
-factor_effect link (Imaginary spot) = Adds (piece.Name link (names.Imaginary spot) None) (Operator last.Name)
+factor_effect link (Number n) = Adds (piece.Number link n) (Operator last.Base)
+factor_effect link (Name n) = Adds (piece.Name link (Declared n)) (Operator last.Name)
+factor_effect link (Imaginary spot) = Adds (piece.Name link (names.Imaginary spot)) (Operator last.Name)
 factor_effect link (Sign sign) = first_sign_effect link sign
 factor_effect link Open = unless_over link (Opens link)
-factor_effect link (Delta spot) = unless_over link (Waits (expected.Delta link spot))
+factor_effect link (Delta spot) = unless_over link (Adds (piece.Delta link spot) expected.Delta)
 factor_effect link _ = Fails
 
 abbrev pub argument_effect : Terminal → Effect
 argument_effect Close = Closes
 argument_effect terminal = factor_effect by_link.First terminal
 
-abbrev pub exponent_sign_effect : Bool → Option signs.Sign → signs.Sign → Effect
-exponent_sign_effect is_parenthesized None sign = Waits (Exponent is_parenthesized (Some sign))
-exponent_sign_effect is_parenthesized (Some _) sign = Fails
+abbrev pub has_minus : Option signs.Sign → Bool
+has_minus (Some Minus) = true
+has_minus _ = false
 
-abbrev pub exponent_open_effect : Bool → Option signs.Sign → Effect
-exponent_open_effect false None = Encloses (Exponent true None)
-exponent_open_effect _ _ = Fails
+-- a minus before a number that isn't 0
+abbrev pub is_negative : powers.Power → Bool
+is_negative p = if has_minus p.sign then (if p.number.value == 0 then false else true) else false
 
-abbrev pub exponent_effect : Bool → Option signs.Sign → Terminal → Effect
-exponent_effect is_parenthesized sign (Number n) = Raises (record { is_parenthesized = is_parenthesized; sign = sign; number = n })
-exponent_effect is_parenthesized sign (Sign s) = exponent_sign_effect is_parenthesized sign s
-exponent_effect is_parenthesized sign Open = exponent_open_effect is_parenthesized sign
-exponent_effect is_parenthesized sign _ = Fails
+abbrev pub behind_number : Bool → Expected
+behind_number is_parenthesized = if is_parenthesized then Closing else Operator last.Power
+
+-- the number of a power: a negative one stands on nothing that has parentheses
+abbrev pub power_effect : Bool → powers.Power → Effect
+power_effect is_on_enclosed p =
+    if is_on_enclosed && is_negative p then Fails else Adds (piece_of_power p) (behind_number p.is_parenthesized)
+
+abbrev pub exponent_sign_effect : Bool → Bool → Option signs.Sign → signs.Sign → Effect
+exponent_sign_effect is_on_enclosed is_parenthesized None sign = Waits (Exponent is_on_enclosed is_parenthesized (Some sign))
+exponent_sign_effect is_on_enclosed is_parenthesized (Some _) sign = Fails
+
+abbrev pub exponent_open_effect : Bool → Bool → Option signs.Sign → Effect
+exponent_open_effect is_on_enclosed false None = Encloses (Exponent is_on_enclosed true None)
+exponent_open_effect is_on_enclosed _ _ = Fails
+
+abbrev pub exponent_effect : Bool → Bool → Option signs.Sign → Terminal → Effect
+exponent_effect is_on_enclosed is_parenthesized sign (Number n) =
+    power_effect is_on_enclosed (record { is_parenthesized = is_parenthesized; sign = sign; number = n })
+exponent_effect is_on_enclosed is_parenthesized sign (Sign s) = exponent_sign_effect is_on_enclosed is_parenthesized sign s
+exponent_effect is_on_enclosed is_parenthesized sign Open = exponent_open_effect is_on_enclosed is_parenthesized sign
+exponent_effect is_on_enclosed is_parenthesized sign _ = Fails
+
+-- what has parentheses stands last
+abbrev pub is_enclosed : lasts.Last → Bool
+is_enclosed last.Enclosed = true
+is_enclosed _ = false
 
 abbrev pub raise_effect : lasts.Last → Effect
 raise_effect last.Power = Fails
-raise_effect _ = Waits (Exponent false None)
+raise_effect l = Waits (Exponent (is_enclosed l) false None)
 
 -- what stands behind a name alone
 abbrev pub behind_name : lasts.Last → Effect → Effect
@@ -76,21 +98,16 @@ operator_effect last Open = behind_name last Calls
 operator_effect last _ = Fails
 
 abbrev pub vector_effect : Terminal → Effect
-vector_effect (Name n) = Adds (piece.EndOfDot (Declared n) None) (Operator last.Base)
-vector_effect (Imaginary spot) = Adds (piece.EndOfDot (names.Imaginary spot) None) (Operator last.Base)
+vector_effect (Name n) = Adds (piece.EndOfDot (Declared n)) (Operator last.Base)
+vector_effect (Imaginary spot) = Adds (piece.EndOfDot (names.Imaginary spot)) (Operator last.Base)
 vector_effect _ = Fails
 
-abbrev pub first_entry_effect : links.Link → Spot → Terminal → Effect
-first_entry_effect link spot (Name n) = Adds (piece.Delta link spot (entries.Name (Declared n))) EntryComma
-first_entry_effect link spot (Imaginary other) = Adds (piece.Delta link spot (entries.Name (names.Imaginary other))) EntryComma
-first_entry_effect link spot (Number n) = Adds (piece.Delta link spot (entries.Number n)) EntryComma
-first_entry_effect link spot _ = Fails
-
-abbrev pub second_entry_effect : Terminal → Effect
-second_entry_effect (Name n) = Adds (piece.EndOfDelta (entries.Name (Declared n)) None) DeltaClosing
-second_entry_effect (Imaginary spot) = Adds (piece.EndOfDelta (entries.Name (names.Imaginary spot)) None) DeltaClosing
-second_entry_effect (Number n) = Adds (piece.EndOfDelta (entries.Number n) None) DeltaClosing
-second_entry_effect _ = Fails
+-- an argument of `d_`, behind which that is expected
+abbrev pub entry_effect : Expected → Terminal → Effect
+entry_effect next (Name n) = Adds (piece.EntryName (Declared n)) next
+entry_effect next (Imaginary spot) = Adds (piece.EntryName (names.Imaginary spot)) next
+entry_effect next (Number n) = Adds (piece.EntryNumber n) next
+entry_effect next _ = Fails
 
 abbrev pub at_open : Terminal → Effect → Effect
 at_open Open effect = effect
@@ -107,18 +124,18 @@ at_comma _ effect = Fails
 -- where one mark alone may stand
 abbrev pub mark_effect : Expected → Terminal → Effect
 mark_effect Closing terminal = at_close terminal (Waits (Operator last.Power))
-mark_effect (expected.Delta link spot) terminal = at_open terminal (Encloses (FirstEntry link spot))
+mark_effect expected.Delta terminal = at_open terminal (Encloses FirstEntry)
 mark_effect EntryComma terminal = at_comma terminal (Waits SecondEntry)
-mark_effect DeltaClosing terminal = at_close terminal (Waits (Operator last.Base))
+mark_effect DeltaClosing terminal = at_close terminal (Adds piece.EndOfDelta (Operator last.Enclosed))
 mark_effect _ terminal = Fails
 
 -- what a terminal does where this is expected
 abbrev pub effect_of : Expected → Terminal → Effect
 effect_of (Factor link) terminal = factor_effect link terminal
 effect_of Argument terminal = argument_effect terminal
-effect_of (Exponent is_parenthesized sign) terminal = exponent_effect is_parenthesized sign terminal
+effect_of (Exponent is_on_enclosed is_parenthesized sign) terminal = exponent_effect is_on_enclosed is_parenthesized sign terminal
 effect_of (Operator last) terminal = operator_effect last terminal
 effect_of Vector terminal = vector_effect terminal
-effect_of (FirstEntry link spot) terminal = first_entry_effect link spot terminal
-effect_of SecondEntry terminal = second_entry_effect terminal
+effect_of FirstEntry terminal = entry_effect EntryComma terminal
+effect_of SecondEntry terminal = entry_effect DeltaClosing terminal
 effect_of e terminal = mark_effect e terminal

@@ -1,10 +1,7 @@
 -- Reading a right side from its front to its end, terminal by terminal. That this reads the right sides of Grammar is proved.
-use Rattle.std.specs.Prelude.{◌≡◌, length, List, [], ◌∷◌, ◌++◌, Bool, true, false, Option, Some, None, option_map, option_and_then, if◌then◌else◌, nat_lt, ◌==◌, Result, Ok, Err}
-use Rattle.form_ast.specs.declared.expr.Sign.TheVariants.{Minus}
-use Rattle.form_ast.specs.declared.expr.Sign as signs
+use Rattle.std.specs.Prelude.{◌≡◌, length, List, [], ◌∷◌, ◌++◌, Bool, true, false, Option, Some, None, option_map, option_and_then, if◌then◌else◌, nat_lt, Result, Ok, Err}
 use Rattle.form_ast.specs.declared.expr.Link as links
 use Rattle.form_ast.specs.declared.expr.Link.TheVariants as by_link
-use Rattle.form_ast.specs.declared.expr.Power.{Power}
 use Rattle.form_ast.specs.declared.expr.Piece.{Piece}
 use Rattle.form_ast.specs.declared.expr.Piece.TheVariants as piece
 use Rattle.form_ast.specs.Lawful.{most_open}
@@ -12,10 +9,10 @@ use Rattle.form_grammar.specs.declared.error.ReadError.{ReadError}
 use Rattle.form_grammar.specs.declared.error.ReadError.TheVariants.{BadSyntax, Memory}
 use Rattle.form_grammar.specs.declared.terminal.Terminal.{Terminal}
 use Rattle.form_grammar.specs.declared.effect.Expected.{Expected}
-use Rattle.form_grammar.specs.declared.effect.Expected.TheVariants.{Factor, Argument, Closing, Operator, Vector}
+use Rattle.form_grammar.specs.declared.effect.Expected.TheVariants.{Factor, Argument, Operator, Vector}
 use Rattle.form_grammar.specs.declared.effect.Last.TheVariants as last
 use Rattle.form_grammar.specs.declared.effect.Effect.{Effect}
-use Rattle.form_grammar.specs.declared.effect.Effect.TheVariants.{Waits, Adds, Opens, Encloses, Calls, Closes, Parts, Raises, Dots, Fails}
+use Rattle.form_grammar.specs.declared.effect.Effect.TheVariants.{Waits, Adds, Opens, Encloses, Calls, Closes, Parts, Dots, Fails}
 use Rattle.form_grammar.specs.declared.brackets.Bracket.{Bracket}
 use Rattle.form_grammar.specs.declared.brackets.Bracket.TheVariants.{Parenthesis, Arguments}
 use Rattle.form_grammar.specs.declared.reader.Change.{Change}
@@ -49,38 +46,15 @@ reading_of r = record { pieces = r.pieces.items; opened = r.opened; expected = r
 abbrev pub begun : Reading
 begun = record { pieces = []; opened = []; expected = Factor by_link.First }
 
-abbrev pub has_minus : Option signs.Sign → Bool
-has_minus (Some Minus) = true
-has_minus _ = false
-
--- a minus before a number that isn't 0
-abbrev pub is_negative : Power → Bool
-is_negative p = if has_minus p.sign then (if p.number.value == 0 then false else true) else false
-
--- a negative power stands on nothing that has parentheses
-abbrev pub unless_negative : Power → Piece → Option Piece
-unless_negative p y = if is_negative p then None else Some y
-
--- the piece with this power
-abbrev pub powered : Power → Piece → Option Piece
-powered p (piece.Number link n power) = Some (piece.Number link n (Some p))
-powered p (piece.Name link n power) = Some (piece.Name link n (Some p))
-powered p (piece.EndOfDot n power) = Some (piece.EndOfDot n (Some p))
-powered p (piece.EndOfDelta e power) = unless_negative p (piece.EndOfDelta e (Some p))
-powered p (piece.EndOfCall power) = unless_negative p (piece.EndOfCall (Some p))
-powered p (piece.Close power) = unless_negative p (piece.Close (Some p))
-powered p _ = None
-
 abbrev pub unless_over : links.Link → Piece → Option Piece
 unless_over by_link.Over y = None
 unless_over _ y = Some y
 
 -- the piece as what follows changes it: a name with arguments doesn't stand behind `/`
 abbrev pub changed : Change → Piece → Option Piece
-changed (changes.Power p) x = powered p x
-changed changes.Dot (piece.Name link n power) = Some (piece.Dot link n)
+changed changes.Dot (piece.Name link n) = Some (piece.Dot link n)
 changed changes.Dot _ = None
-changed changes.Call (piece.Name link n power) = unless_over link (piece.Call link n)
+changed changes.Call (piece.Name link n) = unless_over link (piece.Call link n)
 changed changes.Call _ = None
 
 -- the pieces, the last one changed
@@ -103,12 +77,12 @@ are_arguments _ = false
 
 -- what ends what is open
 abbrev pub end_of : Bracket → Piece
-end_of Parenthesis = piece.Close None
-end_of Arguments = piece.EndOfCall None
+end_of Parenthesis = piece.Close
+end_of Arguments = piece.EndOfCall
 
 abbrev pub closed : List Piece → List Bracket → Option Reading
 closed pieces [] = None
-closed pieces (b ∷ around) = Some (record { pieces = pieces ++ end_of b ∷ []; opened = around; expected = Operator last.Base })
+closed pieces (b ∷ around) = Some (record { pieces = pieces ++ end_of b ∷ []; opened = around; expected = Operator last.Enclosed })
 
 abbrev pub applied : Reading → Effect → Option Reading
 applied r (Waits expected) = Some (record { pieces = r.pieces; opened = r.opened; expected = expected })
@@ -122,8 +96,6 @@ applied r Calls =
 applied r Closes = closed r.pieces r.opened
 applied r Parts =
     if are_arguments r.opened then Some (record { pieces = r.pieces ++ piece.Comma ∷ []; opened = r.opened; expected = Factor by_link.First }) else None
-applied r (Raises p) =
-    option_map (λ n. record { pieces = n.pieces; opened = n.opened; expected = if p.is_parenthesized then Closing else Operator last.Power }) (changed_reading (changes.Power p) r)
 applied r Dots = option_map (λ n. record { pieces = n.pieces; opened = n.opened; expected = Vector }) (changed_reading changes.Dot r)
 applied r Fails = None
 

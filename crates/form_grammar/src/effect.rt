@@ -1,18 +1,19 @@
 ghost use Rattle.std.specs.Prelude.{◌≡◌};
 ghost use Rattle.form_ast.specs.Syntax.{link_of};
-ghost use Rattle.form_grammar.specs.Effect.{factor_effect as factor_effect_of, argument_effect as argument_effect_of, exponent_effect as exponent_effect_of, operator_effect as operator_effect_of, vector_effect as vector_effect_of, first_entry_effect as first_entry_effect_of, second_entry_effect as second_entry_effect_of, mark_effect as mark_effect_of, effect_of as effect};
+ghost use Rattle.form_grammar.specs.Effect.{factor_effect as factor_effect_of, argument_effect as argument_effect_of, exponent_effect as exponent_effect_of, operator_effect as operator_effect_of, vector_effect as vector_effect_of, entry_effect as entry_effect_of, is_negative as is_negative_power, behind_number as behind_number_of, power_effect as power_effect_of, mark_effect as mark_effect_of, effect_of as effect};
 
 use crate::terminal::Terminal;
-use form_ast::{Entry, Link, Named, Piece, Power, Sign};
-use form_base::Spot;
+use form_ast::{Link, Named, Piece, Power, Sign};
 
 /// What stands last behind a factor.
 #[derive(Clone, Copy)]
 pub enum Last {
     /// A name alone.
     Name,
-    /// Anything else that a power may follow.
+    /// Anything else without parentheses that a power may follow.
     Base,
+    /// What has parentheses, on which no negative power stands.
+    Enclosed,
     Power,
 }
 
@@ -25,6 +26,8 @@ pub enum Expected {
     Argument,
     /// A power: its number, its sign where it has none yet, or its `(` where it has neither.
     Exponent {
+        /// Whether it stands on what has parentheses.
+        is_on_enclosed: bool,
         is_parenthesized: bool,
         sign: Option<Sign>,
     },
@@ -34,10 +37,10 @@ pub enum Expected {
     Operator(Last),
     /// The second name of a dot product.
     Vector,
-    /// The `(` of the `d_` here.
-    Delta(Link, Spot),
+    /// The `(` of a `d_`.
+    Delta,
     /// Its first argument.
-    FirstEntry(Link, Spot),
+    FirstEntry,
     /// The `,` behind it.
     EntryComma,
     /// Its second argument.
@@ -63,8 +66,6 @@ pub enum Effect {
     Closes,
     /// It parts arguments.
     Parts,
-    /// It is the number of this power.
-    Raises(Power),
     /// It makes the last name the first one of a dot product.
     Dots,
     /// It may not stand there.
@@ -86,15 +87,15 @@ fn factor_effect(link: Link, terminal: Terminal) -> Effect
 {
     match terminal {
         Terminal::Number(number) => Effect::Adds(
-            Piece::Number(link, number, None),
+            Piece::Number(link, number),
             Expected::Operator(Last::Base),
         ),
         Terminal::Name(name) => Effect::Adds(
-            Piece::Name(link, Named::Declared(name), None),
+            Piece::Name(link, Named::Declared(name)),
             Expected::Operator(Last::Name),
         ),
         Terminal::Imaginary(spot) => Effect::Adds(
-            Piece::Name(link, Named::Imaginary(spot), None),
+            Piece::Name(link, Named::Imaginary(spot)),
             Expected::Operator(Last::Name),
         ),
         Terminal::Sign(sign) if matches!(link, Link::First) => {
@@ -102,7 +103,7 @@ fn factor_effect(link: Link, terminal: Terminal) -> Effect
         }
         Terminal::Open if !matches!(link, Link::Over) => Effect::Opens(link),
         Terminal::Delta(spot) if !matches!(link, Link::Over) => {
-            Effect::Waits(Expected::Delta(link, spot))
+            Effect::Adds(Piece::Delta(link, spot), Expected::Delta)
         }
         _ => Effect::Fails,
     }
@@ -117,21 +118,61 @@ fn argument_effect(terminal: Terminal) -> Effect
     }
 }
 
-fn exponent_effect(is_parenthesized: bool, sign: Option<Sign>, terminal: Terminal) -> Effect
-    ensures { result ≡ exponent_effect_of is_parenthesized sign terminal }
+fn is_negative(power: &Power) -> bool
+    ensures { result ≡ is_negative_power power.now }
+{
+    matches!(power.sign, Some(Sign::Minus)) && power.number.value != 0
+}
+
+/// What may come behind the number of a power.
+fn behind_number(is_parenthesized: bool) -> Expected
+    ensures { result ≡ behind_number_of is_parenthesized }
+{
+    if is_parenthesized {
+        Expected::Closing
+    } else {
+        Expected::Operator(Last::Power)
+    }
+}
+
+/// What the number of a power does: a negative power stands on nothing that has parentheses.
+fn power_effect(is_on_enclosed: bool, power: Power) -> Effect
+    ensures { result ≡ power_effect_of is_on_enclosed power }
+{
+    if is_on_enclosed && is_negative(&power) {
+        return Effect::Fails;
+    }
+    Effect::Adds(
+        Piece::Raised(power.is_parenthesized, power.sign, power.number),
+        behind_number(power.is_parenthesized),
+    )
+}
+
+fn exponent_effect(
+    is_on_enclosed: bool,
+    is_parenthesized: bool,
+    sign: Option<Sign>,
+    terminal: Terminal,
+) -> Effect
+    ensures { result ≡ exponent_effect_of is_on_enclosed is_parenthesized sign terminal }
 {
     match (terminal, sign) {
-        (Terminal::Number(number), _) => Effect::Raises(Power {
-            is_parenthesized,
-            sign,
-            number,
-        }),
+        (Terminal::Number(number), _) => power_effect(
+            is_on_enclosed,
+            Power {
+                is_parenthesized,
+                sign,
+                number,
+            },
+        ),
         (Terminal::Sign(sign), None) => Effect::Waits(Expected::Exponent {
+            is_on_enclosed,
             is_parenthesized,
             sign: Some(sign),
         }),
         (Terminal::Open, None) if !is_parenthesized => {
             Effect::Encloses(Expected::Exponent {
+                is_on_enclosed,
                 is_parenthesized: true,
                 sign: None,
             })
@@ -150,6 +191,7 @@ fn operator_effect(last: Last, terminal: Terminal) -> Effect
         Terminal::Close => Effect::Closes,
         Terminal::Comma => Effect::Parts,
         Terminal::Raise if !matches!(last, Last::Power) => Effect::Waits(Expected::Exponent {
+            is_on_enclosed: matches!(last, Last::Enclosed),
             is_parenthesized: false,
             sign: None,
         }),
@@ -164,53 +206,27 @@ fn vector_effect(terminal: Terminal) -> Effect
 {
     match terminal {
         Terminal::Name(name) => Effect::Adds(
-            Piece::EndOfDot(Named::Declared(name), None),
+            Piece::EndOfDot(Named::Declared(name)),
             Expected::Operator(Last::Base),
         ),
         Terminal::Imaginary(spot) => Effect::Adds(
-            Piece::EndOfDot(Named::Imaginary(spot), None),
+            Piece::EndOfDot(Named::Imaginary(spot)),
             Expected::Operator(Last::Base),
         ),
         _ => Effect::Fails,
     }
 }
 
-fn first_entry_effect(link: Link, spot: Spot, terminal: Terminal) -> Effect
-    ensures { result ≡ first_entry_effect_of link spot terminal }
+/// What an argument of `d_` does, behind which that is expected.
+fn entry_effect(next: Expected, terminal: Terminal) -> Effect
+    ensures { result ≡ entry_effect_of next terminal }
 {
     match terminal {
-        Terminal::Name(name) => Effect::Adds(
-            Piece::Delta(link, spot, Entry::Name(Named::Declared(name))),
-            Expected::EntryComma,
-        ),
-        Terminal::Imaginary(other) => Effect::Adds(
-            Piece::Delta(link, spot, Entry::Name(Named::Imaginary(other))),
-            Expected::EntryComma,
-        ),
-        Terminal::Number(number) => Effect::Adds(
-            Piece::Delta(link, spot, Entry::Number(number)),
-            Expected::EntryComma,
-        ),
-        _ => Effect::Fails,
-    }
-}
-
-fn second_entry_effect(terminal: Terminal) -> Effect
-    ensures { result ≡ second_entry_effect_of terminal }
-{
-    match terminal {
-        Terminal::Name(name) => Effect::Adds(
-            Piece::EndOfDelta(Entry::Name(Named::Declared(name)), None),
-            Expected::DeltaClosing,
-        ),
-        Terminal::Imaginary(spot) => Effect::Adds(
-            Piece::EndOfDelta(Entry::Name(Named::Imaginary(spot)), None),
-            Expected::DeltaClosing,
-        ),
-        Terminal::Number(number) => Effect::Adds(
-            Piece::EndOfDelta(Entry::Number(number), None),
-            Expected::DeltaClosing,
-        ),
+        Terminal::Name(name) => Effect::Adds(Piece::EntryName(Named::Declared(name)), next),
+        Terminal::Imaginary(spot) => {
+            Effect::Adds(Piece::EntryName(Named::Imaginary(spot)), next)
+        }
+        Terminal::Number(number) => Effect::Adds(Piece::EntryNumber(number), next),
         _ => Effect::Fails,
     }
 }
@@ -221,12 +237,10 @@ fn mark_effect(expected: Expected, terminal: Terminal) -> Effect
 {
     match (expected, terminal) {
         (Expected::Closing, Terminal::Close) => { Effect::Waits(Expected::Operator(Last::Power)) }
-        (Expected::Delta(link, spot), Terminal::Open) => {
-            Effect::Encloses(Expected::FirstEntry(link, spot))
-        }
+        (Expected::Delta, Terminal::Open) => Effect::Encloses(Expected::FirstEntry),
         (Expected::EntryComma, Terminal::Comma) => Effect::Waits(Expected::SecondEntry),
         (Expected::DeltaClosing, Terminal::Close) => {
-            Effect::Waits(Expected::Operator(Last::Base))
+            Effect::Adds(Piece::EndOfDelta, Expected::Operator(Last::Enclosed))
         }
         _ => Effect::Fails,
     }
@@ -240,14 +254,15 @@ pub fn effect_of(expected: Expected, terminal: Terminal) -> Effect
         Expected::Factor(link) => factor_effect(link, terminal),
         Expected::Argument => argument_effect(terminal),
         Expected::Exponent {
+            is_on_enclosed,
             is_parenthesized,
             sign,
-        } => exponent_effect(is_parenthesized, sign, terminal),
+        } => exponent_effect(is_on_enclosed, is_parenthesized, sign, terminal),
         Expected::Operator(last) => operator_effect(last, terminal),
         Expected::Vector => vector_effect(terminal),
-        Expected::FirstEntry(link, spot) => first_entry_effect(link, spot, terminal),
-        Expected::SecondEntry => second_entry_effect(terminal),
-        Expected::Closing | Expected::Delta(_, _) | Expected::EntryComma | Expected::DeltaClosing =>
+        Expected::FirstEntry => entry_effect(Expected::EntryComma, terminal),
+        Expected::SecondEntry => entry_effect(Expected::DeltaClosing, terminal),
+        Expected::Closing | Expected::Delta | Expected::EntryComma | Expected::DeltaClosing =>
             mark_effect(expected, terminal),
     }
 }

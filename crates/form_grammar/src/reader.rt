@@ -1,15 +1,15 @@
-ghost use Rattle.std.specs.Prelude.{◌≡◌, ◌++◌, ◌∷◌, [], map, true, false, Some, None, IfErr, IfOk};
+ghost use Rattle.std.specs.Prelude.{◌≡◌, map, true, false, Some, None, IfErr, IfOk};
 ghost use Rattle.std.specs.Vec.Iter.{into_iter_items};
-ghost use Rattle.form_grammar.specs.declared.effect.Effect.TheVariants.{Opens, Encloses, Calls, Closes, Parts, Raises, Dots};
+ghost use Rattle.form_grammar.specs.declared.effect.Effect.TheVariants.{Opens, Encloses, Calls, Closes, Parts, Dots};
 ghost use Rattle.form_grammar.specs.Grammar.{IsExpr};
-ghost use Rattle.form_grammar.specs.Reading.{Gives, Excludes, applied, begun, changed as changed_by, changed_reading, is_negative as is_negative_power, finished, reading_of, room_for, run as run_from, step};
+ghost use Rattle.form_grammar.specs.Reading.{Gives, Excludes, applied, begun, changed as changed_by, changed_reading, finished, reading_of, room_for, run as run_from, step};
 ghost use Rattle.form_grammar.specs.Terminal.{terminal_of};
 
 use crate::ReadError;
 use crate::brackets::{Bracket, Brackets};
 use crate::effect::{Effect, Expected, Last, effect_of};
 use crate::terminal::Terminal;
-use form_ast::{Expr, Link, Piece, Power, Sign};
+use form_ast::{Expr, Link, Piece};
 use form_lexer::Token;
 use std::alloc::Global;
 use std::mem::replace;
@@ -31,37 +31,10 @@ pub struct Reader {
 /// What what follows makes of the last piece.
 #[derive(Drop)]
 pub enum Change {
-    /// It has this power.
-    Power(Power),
     /// It is a name, and begins a dot product.
     Dot,
     /// It is a name, and has arguments.
     Call,
-}
-
-fn is_negative(power: &Power) -> bool
-    ensures { result ≡ is_negative_power power.now }
-{
-    matches!(power.sign, Some(Sign::Minus)) && power.number.value != 0
-}
-
-/// Gives a piece this power, where it may have it: a negative power stands on nothing that has parentheses. Answers
-/// whether it may.
-fn raise_piece(piece: &mut Piece, power: Power) -> bool
-    ensures changed { result ≡ true → changed_by (Change.Power power) piece.old ≡ Some piece.new }
-    ensures unchanged { result ≡ false → changed_by (Change.Power power) piece.old ≡ None }
-{
-    let is_negative = is_negative(&power);
-    match piece {
-        Piece::Number(_, _, written) => *written = Some(power),
-        Piece::Name(_, _, written) => *written = Some(power),
-        Piece::EndOfDot(_, written) => *written = Some(power),
-        Piece::EndOfDelta(_, written) if !is_negative => *written = Some(power),
-        Piece::EndOfCall(written) if !is_negative => *written = Some(power),
-        Piece::Close(written) if !is_negative => *written = Some(power),
-        _ => return false,
-    }
-    true
 }
 
 /// The first name of a dot product, where the piece is a name.
@@ -69,7 +42,7 @@ fn dotted(piece: Piece) -> Option<Piece>
     ensures { result ≡ changed_by Change.Dot piece }
 {
     match piece {
-        Piece::Name(link, name, _) => Some(Piece::Dot(link, name)),
+        Piece::Name(link, name) => Some(Piece::Dot(link, name)),
         _ => None,
     }
 }
@@ -79,7 +52,7 @@ fn called(piece: Piece) -> Option<Piece>
     ensures { result ≡ changed_by Change.Call piece }
 {
     match piece {
-        Piece::Name(link, name, _) if !matches!(link, Link::Over) => Some(Piece::Call(link, name)),
+        Piece::Name(link, name) if !matches!(link, Link::Over) => Some(Piece::Call(link, name)),
         _ => None,
     }
 }
@@ -90,7 +63,6 @@ fn change_piece(piece: &mut Piece, change: Change) -> bool
     ensures unchanged { result ≡ false → changed_by change piece.old ≡ None }
 {
     let taken = match change {
-        Change::Power(power) => return raise_piece(piece, power),
         Change::Dot => dotted(replace(piece, Piece::Comma)),
         Change::Call => called(replace(piece, Piece::Comma)),
     };
@@ -171,12 +143,12 @@ impl Reader {
         ensures { Gives (λ _. reading_of self.new) result (applied (reading_of self.old) Closes) }
     {
         let piece = match self.opened.pop() {
-            Some(Bracket::Parenthesis) => Piece::Close(None),
-            Some(Bracket::Arguments) => Piece::EndOfCall(None),
+            Some(Bracket::Parenthesis) => Piece::Close,
+            Some(Bracket::Arguments) => Piece::EndOfCall,
             None => return Err(ReadError::BadSyntax),
         };
         self.pieces.push(piece)?;
-        self.expected = Expected::Operator(Last::Base);
+        self.expected = Expected::Operator(Last::Enclosed);
         Ok(())
     }
 
@@ -189,19 +161,6 @@ impl Reader {
         }
         self.pieces.push(Piece::Comma)?;
         self.expected = Expected::Factor(Link::First);
-        Ok(())
-    }
-
-    /// Gives the last factor this power.
-    fn raise(&mut self, power: Power) -> Result<(), ReadError>
-        ensures { Gives (λ _. reading_of self.new) result (applied (reading_of self.old) (Raises power)) }
-    {
-        self.change_last(Change::Power(power))?;
-        self.expected = if power.is_parenthesized {
-            Expected::Closing
-        } else {
-            Expected::Operator(Last::Power)
-        };
         Ok(())
     }
 
@@ -228,7 +187,6 @@ impl Reader {
             Effect::Calls => self.call()?,
             Effect::Closes => self.close()?,
             Effect::Parts => self.part()?,
-            Effect::Raises(power) => self.raise(power)?,
             Effect::Dots => self.dot()?,
             Effect::Fails => return Err(ReadError::BadSyntax),
         }

@@ -1,7 +1,7 @@
 //! Right sides against pieces that are written out by hand.
 
 use crate::{ReadError, RightSide, Terminal, read_expr};
-use form_ast::{Link, Piece, Power};
+use form_ast::{Link, Piece};
 use form_base::Spot;
 use form_lexer::{Token, lex};
 use std::alloc::{AllocError, Global};
@@ -26,28 +26,24 @@ fn link(link: Link) -> char {
     }
 }
 
-fn power(power: &Option<Power>) -> char {
-    match power {
-        Some(power) if power.is_parenthesized => '%',
-        Some(_) => '^',
-        None => '.',
-    }
-}
-
-/// Three characters for each piece: how it stands, what it is, and its power.
-fn letters(piece: &Piece) -> (char, char, char) {
+/// Two characters for each piece: how it stands, and what it is.
+fn letters(piece: &Piece) -> (char, char) {
     match piece {
-        Piece::Number(l, _, p) => (link(*l), 'n', power(p)),
-        Piece::Name(l, _, p) => (link(*l), 'a', power(p)),
-        Piece::Dot(l, _) => (link(*l), 'p', '.'),
-        Piece::EndOfDot(_, p) => ('.', 'q', power(p)),
-        Piece::Delta(l, _, _) => (link(*l), 'd', '.'),
-        Piece::EndOfDelta(_, p) => ('.', 'e', power(p)),
-        Piece::Call(l, _) => (link(*l), 'f', '.'),
-        Piece::Comma => ('.', ',', '.'),
-        Piece::EndOfCall(p) => ('.', ';', power(p)),
-        Piece::Open(l) => (link(*l), '(', '.'),
-        Piece::Close(p) => ('.', ')', power(p)),
+        Piece::Number(l, _) => (link(*l), 'n'),
+        Piece::Name(l, _) => (link(*l), 'a'),
+        Piece::Dot(l, _) => (link(*l), 'p'),
+        Piece::EndOfDot(_) => ('.', 'q'),
+        Piece::Delta(l, _) => (link(*l), 'd'),
+        Piece::EntryName(_) => ('.', 'i'),
+        Piece::EntryNumber(_) => ('.', 'j'),
+        Piece::EndOfDelta => ('.', 'e'),
+        Piece::Call(l, _) => (link(*l), 'f'),
+        Piece::Comma => ('.', ','),
+        Piece::EndOfCall => ('.', ';'),
+        Piece::Open(l) => (link(*l), '('),
+        Piece::Close => ('.', ')'),
+        Piece::Raised(true, _, _) => ('.', '%'),
+        Piece::Raised(false, _, _) => ('.', '^'),
     }
 }
 
@@ -57,10 +53,9 @@ fn pieces_of(alloc: Global, line: &str) -> Result<String, Fail> {
     match read_expr(alloc, tokens_of(alloc, line)?.into_iter()) {
         Ok(expr) => {
             for piece in expr.as_slice() {
-                let (l, kind, p) = letters(piece);
+                let (l, kind) = letters(piece);
                 pieces.push(l)?;
                 pieces.push(kind)?;
-                pieces.push(p)?;
             }
             Ok(pieces)
         }
@@ -74,20 +69,17 @@ fn reads_right_sides(rt: HostRuntime) -> Result<(), Fail> {
     let alloc = rt.alloc();
     assert_eq!(rt;
         pieces_of(alloc, "2*x^2 - (x/3^(-1))^+2")?.as_str(),
-        "1n.*a^-(.1a./n%.)^"
+        "1n*a.^-(1a/n.%.).^"
     );
-    assert_eq!(rt;
-        pieces_of(alloc, "-(+[x y])*7^-0")?.as_str(),
-        "-(.+a..).*n^"
-    );
-    assert_eq!(rt; pieces_of(alloc, "(x)^(-0)")?.as_str(), "1(.1a..)%");
+    assert_eq!(rt; pieces_of(alloc, "-(+[x y])*7^-0")?.as_str(), "-(+a.)*n.^");
+    assert_eq!(rt; pieces_of(alloc, "(x)^(-0)")?.as_str(), "1(1a.).%");
     assert_eq!(rt;
         pieces_of(alloc, "f(x,-g()^2)*p.q^-1/p.q")?.as_str(),
-        "1f.1a..,.-f..;^.;.*p..q^/p..q."
+        "1f1a.,-f.;.^.;*p.q.^/p.q"
     );
     assert_eq!(rt;
         pieces_of(alloc, "i_*d_(mu,2)^(3)+f(d_(i_,p))")?.as_str(),
-        "1a.*d..e%+f.1d..e..;."
+        "1a*d.i.j.e.%+f1d.i.i.e.;"
     );
     Ok(())
 }

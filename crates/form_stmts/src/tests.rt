@@ -68,7 +68,7 @@ fn reads_programs(rt: HostRuntime) -> Result<(), Fail> {
         "Print F;",
         "\t.END ;",
     ];
-    assert_eq!(rt; read(rt.alloc(), &texts)?.as_str(), "s3l2.d0k2p1.");
+    assert_eq!(rt; read(rt.alloc(), &texts)?.as_str(), "s3l3.d0k2p1.");
     let texts = [
         "V p q; Index mu nu=4,ro=n; Dimension n; CF f;",
         "ON Statistics; Functions A;",

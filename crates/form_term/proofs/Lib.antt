@@ -1,3 +1,11 @@
+pub mod Balanced
+pub mod Compared
+pub mod DotExponents
 pub mod Dots
+pub mod Inside
 pub mod Left
 pub mod Nesting
+pub mod Parts
+pub mod Ranks
+pub mod ReadBack
+pub mod Terms

@@ -1,18 +1,18 @@
 -- Nesting: lawful arguments make a lawful function.
 use Rattle.std.proofs.Common.{◌≡◌, ℕ, zero, suc, ◌+◌, List, [], ◌∷◌, ◌++◌, refl, ap, sym, ◌∙◌, subst, arith, append-nil, append_assoc, drop, length, get_or, ◌<◌}
-use Rattle.std.specs.Prelude.{All, false, flat_map, map}
+use Rattle.std.specs.Prelude.{All, false, flat_map}
 use Rattle.std.specs.List.{AllByRecursion}
 use Rattle.std.specs.List.Sorted.{IsStrictlySortedBy}
 use Rattle.std.specs.Ordering.{on}
 use Rattle.std.specs.declared.cmp.Ordering.TheVariants.{Less}
 use Rattle.std.proofs.lemmas.List.Elements.{All-nil, All-cons, All-append, recursion_from_All, All-from_recursion}
+use Rattle.std.proofs.lemmas.Grind.{flat_map-append}
 use Rattle.std.proofs.lemmas.List.{drop_more}
 use Rattle.form_frac.specs.Fraction.{IsLowest, is_zero}
-use Rattle.form_term.specs.declared.index.Index.{Index}
 use Rattle.form_term.specs.declared.monomial.Monomial.{Monomial}
 use Rattle.form_term.specs.declared.piece.Piece.{Piece}
 use Rattle.form_term.specs.Monomial.{summands_of}
-use Rattle.form_term.specs.Term.{Term, Call, Summand, Argument, index, vector, expression, IsTerm, IsTermOf, AreFactors, IsExpressionOf, IsExpression, IsArgumentOf, ArePiecesOf, AreArguments, IsCallTo, IsCall, order, pieces_of_summand, pieces_of_argument, pieces_of_arguments}
+use Rattle.form_term.specs.Term.{Term, Call, Summand, Argument, index, vector, expression, IsTerm, IsTermOf, IsExpressionOf, IsExpression, IsArgumentOf, ArePiecesOf, AreArguments, IsCallTo, IsCall, order, pieces_of_summand, pieces_of_argument, pieces_of_arguments}
 
 -- What holds at some number.
 record Somewhere {A : Type 0} (P : ℕ → A → Type 0) (x : A) : Type 0 where
@@ -37,7 +37,7 @@ module _ {A : Type 0} (P : ℕ → A → Type 0) (up : (n : ℕ) (x : A) → P n
       let others = raise_all h.0.number rest.number xs rest.holds in
       record { number = h.0.number + rest.number; holds = (subst (λ m. P m x) (omega arith) first, others) }
 
-all_map : {A : Type 0} (P Q : A → Type 0) → ((x : A) → P x → Q x) → (xs : List A) → AllByRecursion P xs → AllByRecursion Q xs
+pub all_map : {A : Type 0} (P Q : A → Type 0) → ((x : A) → P x → Q x) → (xs : List A) → AllByRecursion P xs → AllByRecursion Q xs
 all_map P Q f [] h = tt
 all_map P Q f (x ∷ xs) h = (f x h.0, all_map P Q f xs h.1)
 
@@ -66,7 +66,7 @@ term_of P Q t h functions word = record {
   shallow = h.shallow;
 }
 
-term_map : (P Q : Call → Type 0) → ((c : Call) → P c → Q c) → (t : Term) → IsTermOf P t → IsTermOf Q t
+pub term_map : (P Q : Call → Type 0) → ((c : Call) → P c → Q c) → (t : Term) → IsTermOf P t → IsTermOf Q t
 term_map P Q f t h = term_of P Q t h (each_map P Q f t.others.functions h.others.functions) (each_map P Q f t.others.word h.others.word)
 
 expression_of : (P Q : Term → Type 0) (ss : List Summand) → IsExpressionOf P ss → All (λ s. Q s.term) ss → IsExpressionOf Q ss
@@ -77,7 +77,7 @@ argument_map P Q f (index i) h = tt
 argument_map P Q f (vector v) h = tt
 argument_map P Q f (expression ss) h = expression_of P Q ss h (each_map (λ (s : Summand). P s.term) (λ (s : Summand). Q s.term) (λ s. f s.term) ss h.terms)
 
-pieces_map : (P Q : Term → Type 0) → ((t : Term) → P t → Q t) → (ps : List Piece) → ArePiecesOf P ps → ArePiecesOf Q ps
+pub pieces_map : (P Q : Term → Type 0) → ((t : Term) → P t → Q t) → (ps : List Piece) → ArePiecesOf P ps → ArePiecesOf Q ps
 pieces_map P Q f ps h = record { arguments = h.arguments; written = h.written; lawful = each_map (IsArgumentOf P) (IsArgumentOf Q) (argument_map P Q f) h.arguments h.lawful }
 
 -- a function that nests so deep nests at most one level deeper
@@ -144,6 +144,14 @@ one_more ps qs a h lawful e = record {
   arguments = h.arguments ++ a ∷ [];
   written = e ∙ ap (λ xs. xs ++ pieces_of_argument a) h.written ∙ sym (written_append h.arguments a);
   lawful = All-append (IsArgumentOf IsTerm) h.arguments (a ∷ []) h.lawful (All-cons (IsArgumentOf IsTerm) a [] lawful (All-nil (IsArgumentOf IsTerm)));
+}
+
+-- arguments behind others
+pub more_pieces : (ps qs : List Piece) → AreArguments ps → AreArguments qs → AreArguments (ps ++ qs)
+more_pieces ps qs h k = record {
+  arguments = h.arguments ++ k.arguments;
+  written = ap (λ xs. xs ++ qs) h.written ∙ ap (λ xs. pieces_of_arguments h.arguments ++ xs) k.written ∙ sym (flat_map-append pieces_of_argument h.arguments k.arguments);
+  lawful = All-append (IsArgumentOf IsTerm) h.arguments k.arguments h.lawful k.lawful;
 }
 
 abbrev pub IsSummandLawful : Monomial → Type 0

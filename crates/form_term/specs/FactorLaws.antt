@@ -1,6 +1,6 @@
 -- Factors alone are terms.
 use Rattle.std.proofs.Common.{◌≡◌, ◌<◌, ◌≤◌, true, false, [], ◌∷◌, arith}
-use Rattle.std.specs.Prelude.{All, nat_abs}
+use Rattle.std.specs.Prelude.{nat_abs}
 use Rattle.std.specs.List.Sorted.{IsStrictlySortedBy}
 use Rattle.std.specs.Ordering.{is_gt}
 use Rattle.std.proofs.lemmas.List.Elements.{All-nil, All-cons}
@@ -9,7 +9,7 @@ use Rattle.form_term.specs.declared.power.DotPower.{DotPower}
 use Rattle.form_term.specs.declared.index.Component.{Component}
 use Rattle.form_term.specs.declared.index.Delta.{Delta}
 use Rattle.form_term.specs.Pieces.{deepest}
-use Rattle.form_term.specs.Term.{Term, Others, Call, IsTerm, IsCall, AreFactors, of_others, nothing, index_order, size, depth, size_of_call, largest_exponent, largest_size, largest_depth}
+use Rattle.form_term.specs.Term.{Others, Call, IsTerm, IsCall, AreFactors, of_others, nothing, index_order, size, depth, size_of_call, largest_exponent, largest_size, largest_depth}
 use Rattle.form_term.specs.Factor.{imaginary_factor, dot_factor, component_factor, delta_factor, function_factor, non_commuting_factor}
 
 lawful : (o : Others) → AreFactors IsCall o → size (of_others o) ≤ largest_size → depth (of_others o) ≤ largest_depth → IsTerm (of_others o)

@@ -1,3 +1,5 @@
+pub mod ArgumentOrder
+pub mod Arguments
 pub mod Calls
 pub mod Factor
 pub mod FactorLaws
@@ -6,6 +8,7 @@ pub mod Feeding
 pub mod Monomial
 pub mod Pieces
 pub mod PowerLaws
+pub mod Reading
 pub mod SymbolLaws
 pub mod Term
 pub mod TermLaws

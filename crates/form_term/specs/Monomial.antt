@@ -14,3 +14,7 @@ negated m = record { coefficient = negate m.coefficient; term = m.term }
 -- terms with their coefficients as those of an expression
 abbrev pub summands_of : List Monomial → List Summand
 summands_of ms = map (λ m. record { coefficient = m.coefficient; term = m.term }) ms
+
+-- and back
+abbrev pub as_monomial : Summand → Monomial
+as_monomial s = record { coefficient = s.coefficient; term = s.term }

@@ -1,5 +1,5 @@
 -- The pieces that a function's arguments are kept as, and their order.
-use Rattle.std.specs.Prelude.{ℕ, ◌+◌, ◌-◌, max, ℤ, Bool, true, false, List, [], ◌∷◌, count_by, if◌then◌else◌}
+use Rattle.std.specs.Prelude.{ℕ, ◌+◌, ◌-◌, max, Bool, true, false, List, [], ◌∷◌, count_by, if◌then◌else◌}
 use Rattle.std.specs.Int.{is_negative}
 use Rattle.std.specs.declared.cmp.Ordering.{Ordering}
 use Rattle.form_term.specs.declared.power.Power.{Power}

@@ -1,8 +1,8 @@
 -- The order of terms: total, and `Equal` only for equal terms.
 use Rattle.std.proofs.Common.{◌≡◌, ◌≢◌, ℕ, Bool, true, false, cond, List, [], ◌∷◌, ◌++◌, map, length, refl, ap, sym, ◌∙◌, ◌↔◌, rules, arith}
-use Rattle.std.specs.Prelude.{ℤ, pos, ◌<◌, ◌≤◌, nat_abs, All, IsTrue, if◌then◌else◌}
+use Rattle.std.specs.Prelude.{pos, ◌<◌, ◌≤◌, nat_abs, All, IsTrue, if◌then◌else◌}
 use Rattle.std.specs.Int.{is_negative}
-use Rattle.std.specs.Ordering.{nat_cmp, int_cmp, ordering_then, eq_by_cmp, is_gt, on}
+use Rattle.std.specs.Ordering.{nat_cmp, int_cmp, ordering_then, eq_by_cmp, is_gt}
 use Rattle.std.specs.Cmp.{IsTotalOrder, IsEquivalence, Equal-is}
 use Rattle.std.specs.Cmp.Lexicographic.{slice_cmp}
 use Rattle.std.specs.List.Sorted.{IsStrictlySortedBy}
@@ -27,7 +27,7 @@ use Rattle.form_term.specs.Pieces.{piece_order, piece_of_dot}
 use Rattle.form_term.specs.Term.{Term, Others, Call, IsTerm, order, symbols_order, dots_order, index_order, component_order, delta_order, call_order, others_order, imaginary_exponent, end_of_term, exponent_of, of_symbols, nothing, AreFactors, IsCall, normal_powers, largest_exponent, largest_size}
 use Rattle.form_term.specs.SymbolLaws.{ArePowers, symbols_order_total, exponents_equal, powers_from_exponents, normal_same, first_difference, then_first}
 
-pieces_total : IsTotalOrder piece_order
+pub pieces_total : IsTotalOrder piece_order
 pieces_total = piece_laws.total-law
 
 pub call_order_total : IsTotalOrder call_order

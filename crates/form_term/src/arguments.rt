@@ -41,6 +41,25 @@ impl Arguments {
         }
     }
 
+    /// No arguments, with room for so many pieces.
+    pub fn with_capacity(alloc: Global, capacity: usize) -> Result<Arguments, AllocError>
+        ensures { IfOk result (λ all. all ≡ []) }
+    {
+        Ok(Arguments {
+            pieces: Vec::with_capacity(alloc, capacity)?,
+        })
+    }
+
+    /// These and those whose pieces these are.
+    pub fn with_pieces(self, list: &[Piece]) -> Result<Arguments, AllocError>
+        requires { terms.AreArguments list.now }
+        ensures { IfOk result (λ all. all ≡ self ++ list.now) }
+    {
+        let Arguments { mut pieces } = self;
+        pieces.extend_from_slice(list)?;
+        Ok(Arguments { pieces })
+    }
+
     /// These and one more, an index alone.
     pub fn with_index(self, index: Index) -> Result<Arguments, AllocError>
         ensures { IfOk result (λ all. all ≡ self ++ terms.pieces_of_argument (terms.index index)) }

@@ -11,6 +11,7 @@ mod order;
 mod others;
 mod piece;
 mod power;
+mod reading;
 mod term;
 
 pub use arguments::Arguments;
@@ -21,6 +22,7 @@ pub use order::compare;
 pub use others::Others;
 pub use piece::{Coefficient, Piece};
 pub use power::{DotPower, Power};
+pub use reading::{part_len, terms_in};
 pub use term::Term;
 
 #[cfg(test)]

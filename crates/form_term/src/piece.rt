@@ -49,6 +49,8 @@ pub enum Piece {
 
 impl Piece {
     ghost use Rattle.std.specs.Prelude.{◌≡◌};
+    ghost use Rattle.std.specs.Prelude.{◌<◌, ◌^◌};
+    ghost use Rattle.form_term.specs.Arguments.{level_behind};
     ghost use Rattle.form_term.specs.Pieces.{piece_of_power, piece_of_dot, counts};
 
     pub fn of_power(power: Power) -> Piece
@@ -79,5 +81,17 @@ impl Piece {
             self,
             Piece::EndOfArguments | Piece::EndOfSum | Piece::Imaginary
         )
+    }
+
+    /// How many sums and functions are open behind it, where so many are before it.
+    pub(crate) fn level_behind(&self, level: usize) -> usize
+        requires { level < 2 ^ 63 }
+        ensures { result ≡ level_behind level self.now }
+    {
+        match self {
+            Piece::Sum | Piece::Function(_) | Piece::NonCommuting(_) => level + 1,
+            Piece::EndOfSum | Piece::EndOfArguments => level.saturating_sub(1),
+            _ => level,
+        }
     }
 }

@@ -1,9 +1,12 @@
-//! The order of terms, and how large and deep they are.
+//! The order of terms, how large and deep they are, and the reading of arguments.
 ghost use Rattle.std.specs.Prelude.{◌≡◌, ◌<◌, ◌≤◌, false, nat_abs};
 ghost use Rattle.form_frac.specs.Fraction.{is_zero};
 ghost use Rattle.form_term.specs.Term.{largest_exponent};
 
-use crate::{Arguments, Component, Delta, DotPower, Index, Monomial, Term, compare};
+use crate::laws::lawful_pieces;
+use crate::{
+    Arguments, Call, Component, Delta, DotPower, Index, Monomial, Term, compare, part_len, terms_in,
+};
 use form_base::Id;
 use form_frac::Frac;
 use std::alloc::{AllocError, Global};
@@ -149,5 +152,37 @@ fn inner_terms_count(rt: HostRuntime) -> Result<(), Fail> {
     assert_eq!(rt; sizes(of_cube(alloc)?), (6, 2));
     assert_eq!(rt; sizes(of_function(alloc)?), (11, 3));
     assert!(rt; is_copied(of_function(alloc)?)?);
+    Ok(())
+}
+
+/// A function of the expression 1.
+fn of_one(alloc: Global) -> Result<Call, AllocError> {
+    Arguments::with_capacity(alloc, 3)?
+        .with_expression(&[Monomial::unit(alloc)])?
+        .into_call(Id::new(5))
+}
+
+/// Whether a function is made again of the pieces of its arguments.
+fn is_made_again(alloc: Global, call: &Call) -> Result<bool, AllocError> {
+    lawful_pieces();
+    let again = Arguments::new(alloc)
+        .with_pieces(call.pieces())?
+        .into_call(call.function())?;
+    Ok(again == *call)
+}
+
+/// How many pieces the first argument has, and how many terms.
+fn first_argument(alloc: Global, call: &Call) -> Result<(usize, usize), AllocError> {
+    lawful_pieces();
+    let terms = terms_in(alloc, call.pieces())?;
+    Ok((part_len(call.pieces()), terms.len()))
+}
+
+#[test]
+fn arguments_are_read_from_their_pieces(rt: HostRuntime) -> Result<(), Fail> {
+    let alloc = rt.alloc();
+    let call = of_one(alloc)?;
+    assert!(rt; is_made_again(alloc, &call)?);
+    assert_eq!(rt; first_argument(alloc, &call)?, (3, 1));
     Ok(())
 }

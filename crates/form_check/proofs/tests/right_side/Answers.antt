@@ -13,7 +13,7 @@ returns c =
       tree = first None (one (factor (call before (argument (first None (one (factor (name inner) None))))) None));
       lawful = (omega arith, tt, tt, tt);
       pieces = c.from_vec.ensures ∙ c.in_ok-push-3.ensures.items
-          ∙ ap (λ ps. ps ++ EndOfCall None ∷ []) (c.in_ok-push-2.ensures.items
-          ∙ ap (λ ps. ps ++ Name First inner None ∷ []) (c.in_ok-push.ensures.items
+          ∙ ap (λ ps. ps ++ EndOfCall ∷ []) (c.in_ok-push-2.ensures.items
+          ∙ ap (λ ps. ps ++ Name First inner ∷ []) (c.in_ok-push.ensures.items
           ∙ ap (λ ps. ps ++ Call First before ∷ []) c.new-pieces.ensures.items));
     }

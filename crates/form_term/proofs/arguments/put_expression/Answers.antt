@@ -1,8 +1,7 @@
-use Rattle.std.proofs.Common.{◌≡◌, ◌≤◌, length, ap, sym, ◌∙◌, subst, rules, arith}
+use Rattle.std.proofs.Common.{◌∙◌, subst, rules}
 use Rattle.std.specs.Prelude.{All}
 use Rattle.std.proofs.lemmas.List.{take_all}
 use Rattle.std.proofs.lemmas.List.Elements.{All-more}
-use Rattle.form_term.specs.declared.monomial.Monomial.{Monomial}
 use Rattle.form_term.proofs.Nesting.{IsSummandLawful, term_put}
 use Rattle.form_term.proofs.arguments.put_expression.Goals as goal
 

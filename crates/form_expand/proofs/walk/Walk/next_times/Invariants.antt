@@ -1,10 +1,14 @@
-use Rattle.std.proofs.Common.{◌≡◌}
+use Rattle.std.proofs.Common.{◌≡◌, ◌-◌, length}
+use Rattle.form_expand.specs.Kept.{kept_terms}
 use Rattle.form_expand.specs.Left.{times_by}
 use Rattle.form_expand.specs.Walks.{walk_left, walk_whole}
 use Rattle.form_expand.proofs.walk.Walk.next_times.Given as goal
 
-abbrev pub invariant-loop : goal.invariant-loop
-invariant-loop l = record {
+abbrev pub invariant-loop-term : goal.invariant-loop-term
+invariant-loop-term l = record {
   left : times_by l.left (walk_left l.limit l.self) ≡ times_by l.left (walk_left l.limit l.initial.self);
   whole : walk_whole l.limit l.self ≡ walk_whole l.limit l.initial.self;
 }
+
+abbrev pub decreases-loop-term : goal.decreases-loop-term
+decreases-loop-term l = length (kept_terms l.self.whole.kept) - l.self.place

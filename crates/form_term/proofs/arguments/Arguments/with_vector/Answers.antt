@@ -1,5 +1,4 @@
-use Rattle.std.proofs.Common.{◌++◌, ap, ◌∙◌}
-use Rattle.form_term.specs.Term.{pieces_of_argument, vector}
+use Rattle.form_term.specs.Term.{vector}
 use Rattle.form_term.proofs.Nesting.{one_more}
 use Rattle.form_term.proofs.arguments.Arguments.with_vector.Goals as goal
 

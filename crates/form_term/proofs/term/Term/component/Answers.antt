@@ -1,6 +1,5 @@
-use Rattle.std.proofs.Common.{◌≡◌, List, [], ◌∷◌, ◌++◌, ap, sym, ◌∙◌, subst}
-use Rattle.form_term.specs.declared.index.Component.{Component}
-use Rattle.form_term.specs.Term.{Term, Others, IsTerm, nothing}
+use Rattle.std.proofs.Common.{◌≡◌, [], ◌∷◌, ◌++◌, ap, sym, ◌∙◌, subst}
+use Rattle.form_term.specs.Term.{Others, IsTerm}
 use Rattle.form_term.specs.FactorLaws.{component_lawful}
 use Rattle.form_term.proofs.term.Term.component.Goals as goal
 

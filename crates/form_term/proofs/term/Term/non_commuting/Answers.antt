@@ -1,5 +1,5 @@
-use Rattle.std.proofs.Common.{◌≡◌, List, [], ◌∷◌, ◌++◌, ap, sym, ◌∙◌, subst}
-use Rattle.form_term.specs.Term.{Term, Others, Call, IsTerm, nothing}
+use Rattle.std.proofs.Common.{◌≡◌, [], ◌∷◌, ◌++◌, ap, sym, ◌∙◌, subst}
+use Rattle.form_term.specs.Term.{Others, IsTerm}
 use Rattle.form_term.specs.FactorLaws.{non_commuting_lawful}
 use Rattle.form_term.proofs.term.Term.non_commuting.Goals as goal
 
