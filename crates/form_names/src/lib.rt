@@ -2,6 +2,7 @@
 #![tactic(auto)]
 
 mod kind;
+pub mod laws;
 mod names;
 
 pub use kind::{Dimension, Kind};

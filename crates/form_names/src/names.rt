@@ -68,6 +68,7 @@ impl Names {
         ensures declared { IfOk result (λ id. declare self.old name kind ≡ Some (id, self.new)) }
         ensures redeclared { result ≡ Err DeclareError.Redeclared → declare self.old name kind ≡ None }
         ensures unchanged { OnErr result (self.new ≡ self.old) }
+        ensures memory { result ≡ Err DeclareError.Memory → lookup self.old name ≡ None }
     {
         match self.lookup(name.as_str()) {
             Some(id) if self.kind(id) == kind => Ok(id),

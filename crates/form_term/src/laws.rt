@@ -9,7 +9,10 @@ ghost use Rattle.form_term.specs.declared.piece.Piece.{Piece};
 ghost use Rattle.form_term.specs.ArgumentOrder.{IsPairBefore, argument_order, dot_exponent_of};
 ghost use Rattle.form_term.specs.Arguments.{arguments_of};
 ghost use Rattle.form_term.specs.Pieces.{piece_order};
-ghost use Rattle.form_term.specs.Term.{Term, Argument, Call, IsTerm, IsCall, IsArgumentOf, AreArguments, call_order, exponent_of, order, pieces_of_arguments};
+ghost use Rattle.form_term.specs.Term.{Term, Argument, Call, IsTerm, IsCall, IsArgumentOf, AreArguments, call_order, exponent_of, order, pieces_of_arguments, index_order, component_order, delta_order};
+ghost use Rattle.form_term.specs.declared.index.Index.TheVariants as indices;
+ghost use Rattle.form_term.specs.declared.index.Component.{Component};
+ghost use Rattle.form_term.specs.declared.index.Delta.{Delta};
 
 /// The order of terms is total, and only equal terms compare equal. `i_` decides first, then the first symbol in order
 /// of declaration whose exponents differ, and where none do, the first pair of vectors whose exponents do.
@@ -54,6 +57,20 @@ pub fn lawful_pieces()
     ensures read { (ps : List Piece) → AreArguments ps →
         (ps ≡ pieces_of_arguments (arguments_of ps)) × All (IsArgumentOf IsTerm) (arguments_of ps) }
     ensures calls { (c : Call) → IsCall c ↔ AreArguments c.pieces }
+{}
+
+/// Indices go by their kind and then by their number, and components and deltas by their parts from the left.
+pub fn order_of_indices()
+    ensures fixed { (m n : ℕ) → index_order (indices.Fixed m) (indices.Fixed n) ≡ nat_cmp m n }
+    ensures declared { (m n : ℕ) → index_order (indices.Declared m) (indices.Declared n) ≡ nat_cmp m n }
+    ensures dummies { (m n : ℕ) → index_order (indices.Dummy m) (indices.Dummy n) ≡ nat_cmp m n }
+    ensures fixed_first { (m n : ℕ) → index_order (indices.Fixed m) (indices.Declared n) ≡ Less }
+    ensures fixed_before_dummies { (m n : ℕ) → index_order (indices.Fixed m) (indices.Dummy n) ≡ Less }
+    ensures dummies_last { (m n : ℕ) → index_order (indices.Declared m) (indices.Dummy n) ≡ Less }
+    ensures components { (c d : Component) →
+        component_order c d ≡ ordering_then (nat_cmp c.vector d.vector) (index_order c.index d.index) }
+    ensures deltas { (c d : Delta) →
+        delta_order c d ≡ ordering_then (index_order c.first d.first) (index_order c.second d.second) }
 {}
 
 /// Pieces compare as the arguments that they are those of. So functions go by their names, and then by their arguments.
