@@ -4,15 +4,15 @@ use Rattle.std.proofs.lemmas.Option.{same_Some}
 use Rattle.std.proofs.lemmas.List.{append-nil}
 use Rattle.form_ast.specs.declared.expr.Sign.{Sign}
 use Rattle.form_ast.specs.declared.expr.Sign.TheVariants.{Plus, Minus}
+use Rattle.form_ast.specs.declared.expr.Named.TheVariants.{Declared}
 use Rattle.form_ast.specs.declared.expr.Link.{Link}
 use Rattle.form_ast.specs.declared.expr.Link.TheVariants as links
-use Rattle.form_ast.specs.declared.expr.Named.{Named}
-use Rattle.form_ast.specs.declared.expr.Entry.TheVariants as entries
+use Rattle.form_ast.specs.declared.expr.Restriction.{Restriction}
 use Rattle.form_ast.specs.declared.expr.Power.{Power}
 use Rattle.form_ast.specs.declared.expr.Piece.{Piece}
 use Rattle.form_ast.specs.declared.expr.Piece.TheVariants as pieces
-use Rattle.form_ast.specs.Building.{Lead, start, after, Begun, nothing, begun, Opened, in_parenthesis, in_call, Frame, Building, added, raised, with_argument, build, tree_of}
-use Rattle.form_ast.specs.Syntax.{Sum, first, more, Product, one, times, over, Factor, factor, Base, number, name, dot, delta, empty_call, call, parenthesis, Arguments, argument, further, link_of, first_link, piece_of_power, pieces_of_sum, pieces_of_product, pieces_of_factor, pieces_of_base, pieces_of_arguments}
+use Rattle.form_ast.specs.Building.{Lead, start, after, Begun, nothing, begun, a_field, Opened, in_parenthesis, in_call, Frame, Building, added, changed, with_power_on, with_name_on, marked_factor, argument_of, with_argument, build, tree_of}
+use Rattle.form_ast.specs.Syntax.{Label, named, wildcard, Entry, name_entry, number_entry, Sum, first, more, Product, one, times, over, Factor, factor, raised, Base, number, name, dot, delta, empty_call, call, parenthesis, Arguments, argument, further, Argument, expression, field, link_of, first_link, name_of, mark_of, piece_of_power, pieces_of_sum, pieces_of_product, pieces_of_factor, pieces_of_base, pieces_of_arguments, pieces_of_argument}
 
 abbrev at : List Frame → Begun → Building
 at around inner = record { around = around; inner = inner }
@@ -45,43 +45,81 @@ unfolding build
 closed_up around inner link (first o p) rest = refl
 closed_up around inner link (more s o p) rest = refl
 
+-- what is begun where an argument ends
+abbrev begun_with : Argument → Begun
+begun_with (expression s) = begun_of s
+begun_with (field n) = a_field n
+
 -- the arguments that are complete before the last one, and this
 abbrev before_last : Arguments → Option Arguments
-before_last (argument s) = None
-before_last (further args s) = Some args
+before_last (argument a) = None
+before_last (further args a) = Some args
 
-abbrev last_of : Arguments → Sum
-last_of (argument s) = s
-last_of (further args s) = s
+abbrev last_of : Arguments → Argument
+last_of (argument a) = a
+last_of (further args a) = a
 
 with_last : (args : Arguments) → with_argument (before_last args) (last_of args) ≡ args
-with_last (argument s) = refl
-with_last (further args s) = refl
+with_last (argument a) = refl
+with_last (further args a) = refl
 
-call_closed : (around : List Frame) (inner : Begun) (link : Link) (n : Named) (before : Option Arguments) (s : Sum) (rest : List Piece)
-    → build (at (frame inner link (in_call n before) ∷ around) (begun_of s)) (pieces.EndOfCall ∷ rest) ≡ build (at around (added inner link (factor (call n (with_argument before s)) None))) rest
+call_closed : (around : List Frame) (inner : Begun) (link : Link) (n : Label) (before : Option Arguments) (a : Argument) (rest : List Piece)
+    → build (at (frame inner link (in_call n before) ∷ around) (begun_with a)) (pieces.EndOfCall ∷ rest) ≡ build (at around (added inner link (factor (call n (with_argument before a)) None))) rest
 unfolding build
-call_closed around inner link n before (first o p) rest = refl
-call_closed around inner link n before (more s o p) rest = refl
+call_closed around inner link n before (expression (first o p)) rest = refl
+call_closed around inner link n before (expression (more s o p)) rest = refl
+call_closed around inner link n before (field m) rest = refl
 
-parted_at : (around : List Frame) (inner : Begun) (link : Link) (n : Named) (before : Option Arguments) (s : Sum) (rest : List Piece)
-    → build (at (frame inner link (in_call n before) ∷ around) (begun_of s)) (pieces.Comma ∷ rest) ≡ build (at (frame inner link (in_call n (Some (with_argument before s))) ∷ around) nothing) rest
+parted_at : (around : List Frame) (inner : Begun) (link : Link) (n : Label) (before : Option Arguments) (a : Argument) (rest : List Piece)
+    → build (at (frame inner link (in_call n before) ∷ around) (begun_with a)) (pieces.Comma ∷ rest) ≡ build (at (frame inner link (in_call n (Some (with_argument before a))) ∷ around) nothing) rest
 unfolding build
-parted_at around inner link n before (first o p) rest = refl
-parted_at around inner link n before (more s o p) rest = refl
+parted_at around inner link n before (expression (first o p)) rest = refl
+parted_at around inner link n before (expression (more s o p)) rest = refl
+parted_at around inner link n before (field m) rest = refl
 
--- a power behind a factor is the factor's
-raised_added : (inner : Begun) (link : Link) (b : Base) (p : Power) → raised (added inner link (factor b None)) p ≡ added inner link (factor b (Some p))
-raised_added nothing links.First b p = refl
-raised_added nothing links.Plus b p = refl
-raised_added nothing links.Minus b p = refl
-raised_added nothing links.Times b p = refl
-raised_added nothing links.Over b p = refl
-raised_added (begun l r) links.First b p = refl
-raised_added (begun l r) links.Plus b p = refl
-raised_added (begun l r) links.Minus b p = refl
-raised_added (begun l r) links.Times b p = refl
-raised_added (begun l r) links.Over b p = refl
+-- what changes a factor behind it changes this factor
+changed_added : (change : Factor → Factor) (inner : Begun) (link : Link) (f : Factor) → changed change (added inner link f) ≡ added inner link (change f)
+changed_added change nothing links.First f = refl
+changed_added change nothing links.Plus f = refl
+changed_added change nothing links.Minus f = refl
+changed_added change nothing links.Times f = refl
+changed_added change nothing links.Over f = refl
+changed_added change (begun l r) links.First f = refl
+changed_added change (begun l r) links.Plus f = refl
+changed_added change (begun l r) links.Minus f = refl
+changed_added change (begun l r) links.Times f = refl
+changed_added change (begun l r) links.Over f = refl
+changed_added change (a_field n) links.First f = refl
+changed_added change (a_field n) links.Plus f = refl
+changed_added change (a_field n) links.Minus f = refl
+changed_added change (a_field n) links.Times f = refl
+changed_added change (a_field n) links.Over f = refl
+
+mark_added : (around : List Frame) (inner : Begun) (link : Link) (f : Factor) (r : Restriction) (rest : List Piece)
+    → build (at around (added inner link f)) (pieces.Marked r ∷ rest) ≡ build (at around (added inner link (marked_factor r f))) rest
+unfolding build
+mark_added around nothing links.First f r rest = refl
+mark_added around nothing links.Plus f r rest = refl
+mark_added around nothing links.Minus f r rest = refl
+mark_added around nothing links.Times f r rest = refl
+mark_added around nothing links.Over f r rest = refl
+mark_added around (begun l p) links.First f r rest = refl
+mark_added around (begun l p) links.Plus f r rest = refl
+mark_added around (begun l p) links.Minus f r rest = refl
+mark_added around (begun l p) links.Times f r rest = refl
+mark_added around (begun l p) links.Over f r rest = refl
+mark_added around (a_field n) links.First f r rest = refl
+mark_added around (a_field n) links.Plus f r rest = refl
+mark_added around (a_field n) links.Minus f r rest = refl
+mark_added around (a_field n) links.Times f r rest = refl
+mark_added around (a_field n) links.Over f r rest = refl
+
+-- the name of a call
+of_name : (n : Label) (args : Arguments) (around : List Frame) (inner : Begun) (link : Link) (rest : List Piece)
+    → build (at around inner) (pieces_of_base link (call n args) ++ rest) ≡ build (at (frame inner link (in_call n None) ∷ around) nothing) ((pieces_of_arguments args ++ pieces.EndOfCall ∷ []) ++ rest)
+unfolding build
+of_name (named n) args around inner link rest = refl
+of_name (wildcard n r) args around inner link rest = refl
 
 mutual
   unfolding build
@@ -111,20 +149,40 @@ mutual
   of_factor (factor b (Some p)) around inner link rest =
       ap (build (at around inner)) (append_assoc (pieces_of_base link b) (piece_of_power p ∷ []) rest)
       ∙ of_base b around inner link (piece_of_power p ∷ rest)
-      ∙ ap (λ (i : Begun). build (at around i) rest) (raised_added inner link b p)
+      ∙ ap (λ (i : Begun). build (at around i) rest) (changed_added (with_power_on p) inner link (factor b None))
+  of_factor (raised b sign (named n)) around inner link rest =
+      ap (build (at around inner)) (append_assoc (pieces_of_base link b) (pieces.RaisedByName sign n ∷ []) rest)
+      ∙ of_base b around inner link (pieces.RaisedByName sign n ∷ rest)
+      ∙ ap (λ (i : Begun). build (at around i) rest) (changed_added (with_name_on sign (named n)) inner link (factor b None))
+  of_factor (raised b sign (wildcard n r)) around inner link rest =
+      ap (build (at around inner)) (append_assoc (pieces_of_base link b) (pieces.RaisedByName sign (Declared n) ∷ pieces.Marked r ∷ []) rest)
+      ∙ of_base b around inner link (pieces.RaisedByName sign (Declared n) ∷ pieces.Marked r ∷ rest)
+      ∙ ap (λ (i : Begun). build (at around i) (pieces.Marked r ∷ rest)) (changed_added (with_name_on sign (named (Declared n))) inner link (factor b None))
+      ∙ mark_added around inner link (raised b sign (named (Declared n))) r rest
 
   of_base : (b : Base) (around : List Frame) (inner : Begun) (link : Link) (rest : List Piece)
       → build (at around inner) (pieces_of_base link b ++ rest) ≡ build (at around (added inner link (factor b None))) rest
   of_base (number n) around inner link rest = refl
-  of_base (name n) around inner link rest = refl
-  of_base (dot p q) around inner link rest = refl
-  of_base (delta spot (entries.Name a) (entries.Name b)) around inner link rest = refl
-  of_base (delta spot (entries.Name a) (entries.Number b)) around inner link rest = refl
-  of_base (delta spot (entries.Number a) (entries.Name b)) around inner link rest = refl
-  of_base (delta spot (entries.Number a) (entries.Number b)) around inner link rest = refl
-  of_base (empty_call n) around inner link rest = refl
+  of_base (name (named n)) around inner link rest = refl
+  of_base (name (wildcard n r)) around inner link rest = mark_added around inner link (factor (name (named (Declared n))) None) r rest
+  of_base (dot (named p) (named q)) around inner link rest = refl
+  of_base (dot (wildcard p o) (named q)) around inner link rest = refl
+  of_base (dot (named p) (wildcard q r)) around inner link rest = mark_added around inner link (factor (dot (named p) (named (Declared q))) None) r rest
+  of_base (dot (wildcard p o) (wildcard q r)) around inner link rest = mark_added around inner link (factor (dot (wildcard p o) (named (Declared q))) None) r rest
+  of_base (delta spot (name_entry (named a)) (name_entry (named b))) around inner link rest = refl
+  of_base (delta spot (name_entry (named a)) (name_entry (wildcard b r))) around inner link rest = refl
+  of_base (delta spot (name_entry (named a)) (number_entry b)) around inner link rest = refl
+  of_base (delta spot (name_entry (wildcard a o)) (name_entry (named b))) around inner link rest = refl
+  of_base (delta spot (name_entry (wildcard a o)) (name_entry (wildcard b r))) around inner link rest = refl
+  of_base (delta spot (name_entry (wildcard a o)) (number_entry b)) around inner link rest = refl
+  of_base (delta spot (number_entry a) (name_entry (named b))) around inner link rest = refl
+  of_base (delta spot (number_entry a) (name_entry (wildcard b r))) around inner link rest = refl
+  of_base (delta spot (number_entry a) (number_entry b)) around inner link rest = refl
+  of_base (empty_call (named n)) around inner link rest = refl
+  of_base (empty_call (wildcard n r)) around inner link rest = refl
   of_base (call n args) around inner link rest =
-      ap (build (at (frame inner link (in_call n None) ∷ around) nothing)) (append_assoc (pieces_of_arguments args) (pieces.EndOfCall ∷ []) rest)
+      of_name n args around inner link rest
+      ∙ ap (build (at (frame inner link (in_call n None) ∷ around) nothing)) (append_assoc (pieces_of_arguments args) (pieces.EndOfCall ∷ []) rest)
       ∙ of_arguments args around inner link n (pieces.EndOfCall ∷ rest)
       ∙ call_closed around inner link n (before_last args) (last_of args) rest
       ∙ ap (λ (all : Arguments). build (at around (added inner link (factor (call n all) None))) rest) (with_last args)
@@ -133,15 +191,20 @@ mutual
       ∙ of_sum s (frame inner link in_parenthesis ∷ around) (pieces.Close ∷ rest)
       ∙ closed_up around inner link s rest
 
-  of_arguments : (args : Arguments) (around : List Frame) (inner : Begun) (link : Link) (n : Named) (rest : List Piece)
-      → build (at (frame inner link (in_call n None) ∷ around) nothing) (pieces_of_arguments args ++ rest) ≡ build (at (frame inner link (in_call n (before_last args)) ∷ around) (begun_of (last_of args))) rest
-  of_arguments (argument s) around inner link n rest = of_sum s (frame inner link (in_call n None) ∷ around) rest
-  of_arguments (further args s) around inner link n rest =
-      ap (build (at (frame inner link (in_call n None) ∷ around) nothing)) (append_assoc (pieces_of_arguments args) (pieces.Comma ∷ pieces_of_sum s) rest)
-      ∙ of_arguments args around inner link n (pieces.Comma ∷ pieces_of_sum s ++ rest)
-      ∙ parted_at around inner link n (before_last args) (last_of args) (pieces_of_sum s ++ rest)
-      ∙ ap (λ (all : Arguments). build (at (frame inner link (in_call n (Some all)) ∷ around) nothing) (pieces_of_sum s ++ rest)) (with_last args)
-      ∙ of_sum s (frame inner link (in_call n (Some args)) ∷ around) rest
+  of_arguments : (args : Arguments) (around : List Frame) (inner : Begun) (link : Link) (n : Label) (rest : List Piece)
+      → build (at (frame inner link (in_call n None) ∷ around) nothing) (pieces_of_arguments args ++ rest) ≡ build (at (frame inner link (in_call n (before_last args)) ∷ around) (begun_with (last_of args))) rest
+  of_arguments (argument a) around inner link n rest = of_argument a (frame inner link (in_call n None) ∷ around) rest
+  of_arguments (further args a) around inner link n rest =
+      ap (build (at (frame inner link (in_call n None) ∷ around) nothing)) (append_assoc (pieces_of_arguments args) (pieces.Comma ∷ pieces_of_argument a) rest)
+      ∙ of_arguments args around inner link n (pieces.Comma ∷ pieces_of_argument a ++ rest)
+      ∙ parted_at around inner link n (before_last args) (last_of args) (pieces_of_argument a ++ rest)
+      ∙ ap (λ (all : Arguments). build (at (frame inner link (in_call n (Some all)) ∷ around) nothing) (pieces_of_argument a ++ rest)) (with_last args)
+      ∙ of_argument a (frame inner link (in_call n (Some args)) ∷ around) rest
+
+  of_argument : (a : Argument) (around : List Frame) (rest : List Piece)
+      → build (at around nothing) (pieces_of_argument a ++ rest) ≡ build (at around (begun_with a)) rest
+  of_argument (expression s) around rest = of_sum s around rest
+  of_argument (field n) around rest = refl
 
 of_begun : (s : Sum) → build (at [] (begun_of s)) [] ≡ Some s
 unfolding build

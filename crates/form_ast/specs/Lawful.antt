@@ -1,12 +1,47 @@
--- What a right side may not have although its tokens are in order.
-use Rattle.std.specs.Prelude.{◌≡◌, ◌≢◌, ℕ, ◌+◌, ◌<◌, List, true, Option, Some, None, All}
+-- What a right side or a pattern may not have although its tokens are in order.
+use Rattle.std.specs.Prelude.{◌≡◌, ◌≢◌, ℕ, ◌+◌, ◌<◌, List, [], ◌∷◌, true, IsTrue, Option, Some, None, All}
+use Rattle.form_ast.specs.declared.expr.Sign.{Sign}
 use Rattle.form_ast.specs.declared.expr.Sign.TheVariants.{Minus}
 use Rattle.form_ast.specs.declared.expr.Power.{Power}
+use Rattle.form_ast.specs.declared.expr.Named.TheVariants.{Declared, Imaginary}
+use Rattle.form_ast.specs.declared.expr.Restriction.{Restriction}
+use Rattle.form_ast.specs.declared.expr.Restriction.TheVariants.{Names, Numbers}
 use Rattle.form_ast.specs.declared.expr.Piece.{Piece}
+use Rattle.form_ast.specs.declared.setting.Setting.{Setting}
+use Rattle.form_ast.specs.declared.setting.Setting.TheVariants.{Plain, Right, Pattern}
 use Rattle.form_ast.specs.declared.statement.Placed.{Placed}
 use Rattle.form_ast.specs.declared.statement.Statement.{Statement}
-use Rattle.form_ast.specs.declared.statement.Statement.TheVariants.{Local}
-use Rattle.form_ast.specs.Syntax.{Sum, first, more, Product, one, times, over, Factor, factor, number, name, dot, delta, empty_call, call, parenthesis, Arguments, argument, further, pieces_of_sum}
+use Rattle.form_ast.specs.declared.statement.Statement.TheVariants.{Local, Rewrite}
+use Rattle.form_ast.specs.Syntax.{Label, named, wildcard, Entry, name_entry, number_entry, Sum, first, more, Product, one, times, over, Factor, factor, raised, Base, number, name, dot, delta, empty_call, call, parenthesis, Arguments, argument, further, Argument, expression, field, pieces_of_sum}
+use Rattle.form_ast.specs.Patterns.{is_pattern, IsKnownPiece}
+
+-- ---- names, fields and powers
+
+-- elements that are written are some
+abbrev pub AreSome : Restriction → Type 0
+AreSome (Names []) = ⊥
+AreSome (Numbers []) = ⊥
+AreSome _ = Unit {0}
+
+-- wildcards stand in patterns alone
+abbrev pub IsLawfulLabel : Setting → Label → Type 0
+IsLawfulLabel at (named n) = Unit {0}
+IsLawfulLabel at (wildcard n r) = (at ≡ Pattern) × AreSome r
+
+abbrev pub IsLawfulEntry : Setting → Entry → Type 0
+IsLawfulEntry at (name_entry n) = IsLawfulLabel at n
+IsLawfulEntry at (number_entry n) = Unit {0}
+
+-- a name as a power: in a right side one that is declared, in a pattern a wildcard, without a sign
+abbrev pub IsLawfulExponent : Setting → Option Sign → Label → Type 0
+IsLawfulExponent at sign (named (Declared n)) = at ≡ Right
+IsLawfulExponent at sign (named (Imaginary spot)) = ⊥
+IsLawfulExponent at sign (wildcard n r) = (at ≡ Pattern) × (sign ≡ None) × AreSome r
+
+-- fields stand in patterns, and in the right sides of these
+abbrev pub HasFields : Setting → Type 0
+HasFields Plain = ⊥
+HasFields _ = Unit {0}
 
 -- so many parentheses may be open at a place, those of a power and of arguments with them
 abbrev pub most_open : ℕ
@@ -25,57 +60,90 @@ abbrev pub IsNotNegative : Option Power → Type 0
 IsNotNegative None = Unit {0}
 IsNotNegative (Some p) = ¬ IsNegative p
 
--- a number, a name without parentheses or a dot product, with or without a power
+-- what has parentheses has no negative power
+abbrev pub IsPowerOf : Base → Option Power → Type 0
+IsPowerOf (number n) power = Unit {0}
+IsPowerOf (name n) power = Unit {0}
+IsPowerOf (dot p q) power = Unit {0}
+IsPowerOf _ power = IsNotNegative power
+
+-- a number, a name without parentheses or a dot product
+abbrev pub HasNoParenthesis : Base → Type 0
+HasNoParenthesis (number n) = Unit {0}
+HasNoParenthesis (name n) = Unit {0}
+HasNoParenthesis (dot p q) = Unit {0}
+HasNoParenthesis _ = ⊥
+
+-- such a base, with or without a power
 abbrev pub IsDivisor : Factor → Type 0
-IsDivisor (factor (number n) power) = Unit {0}
-IsDivisor (factor (name n) power) = Unit {0}
-IsDivisor (factor (dot p q) power) = Unit {0}
-IsDivisor (factor (delta spot a b) power) = ⊥
-IsDivisor (factor (empty_call n) power) = ⊥
-IsDivisor (factor (call n args) power) = ⊥
-IsDivisor (factor (parenthesis s) power) = ⊥
+IsDivisor (factor b power) = HasNoParenthesis b
+IsDivisor (raised b sign n) = HasNoParenthesis b
+
+-- ---- trees
 
 -- A tree may stand where so many parentheses are open: no more than 64 are open anywhere in it, a number, a name or a
--- dot product stands after `/`, and what has parentheses has no negative power.
+-- dot product stands after `/`, what has parentheses has no negative power, and wildcards, fields and names as powers
+-- stand where its setting has them.
 abbrev mutual
-  pub IsLawfulSum : ℕ → Sum → Type 0
-  IsLawfulSum opened (first sign p) = IsLawfulProduct opened p
-  IsLawfulSum opened (more s sign p) = IsLawfulSum opened s × IsLawfulProduct opened p
+  pub IsLawfulSum : Setting → ℕ → Sum → Type 0
+  IsLawfulSum at opened (first sign p) = IsLawfulProduct at opened p
+  IsLawfulSum at opened (more s sign p) = IsLawfulSum at opened s × IsLawfulProduct at opened p
 
-  pub IsLawfulProduct : ℕ → Product → Type 0
-  IsLawfulProduct opened (one f) = IsLawfulFactor opened f
-  IsLawfulProduct opened (times p f) = IsLawfulProduct opened p × IsLawfulFactor opened f
-  IsLawfulProduct opened (over p f) = IsLawfulProduct opened p × IsLawfulFactor opened f × IsDivisor f
+  pub IsLawfulProduct : Setting → ℕ → Product → Type 0
+  IsLawfulProduct at opened (one f) = IsLawfulFactor at opened f
+  IsLawfulProduct at opened (times p f) = IsLawfulProduct at opened p × IsLawfulFactor at opened f
+  IsLawfulProduct at opened (over p f) = IsLawfulProduct at opened p × IsLawfulFactor at opened f × IsDivisor f
 
-  pub IsLawfulFactor : ℕ → Factor → Type 0
-  IsLawfulFactor opened (factor (number n) power) = IsLawfulPower opened power
-  IsLawfulFactor opened (factor (name n) power) = IsLawfulPower opened power
-  IsLawfulFactor opened (factor (dot p q) power) = IsLawfulPower opened power
-  IsLawfulFactor opened (factor (delta spot a b) power) = (opened < most_open) × IsLawfulPower opened power × IsNotNegative power
-  IsLawfulFactor opened (factor (empty_call n) power) = (opened < most_open) × IsLawfulPower opened power × IsNotNegative power
-  IsLawfulFactor opened (factor (call n args) power) =
-      (opened < most_open) × IsLawfulArguments (opened + 1) args × IsLawfulPower opened power × IsNotNegative power
-  IsLawfulFactor opened (factor (parenthesis s) power) =
-      (opened < most_open) × IsLawfulSum (opened + 1) s × IsLawfulPower opened power × IsNotNegative power
+  pub IsLawfulFactor : Setting → ℕ → Factor → Type 0
+  IsLawfulFactor at opened (factor b power) = IsLawfulBase at opened b × IsLawfulPower opened power × IsPowerOf b power
+  IsLawfulFactor at opened (raised b sign n) = IsLawfulBase at opened b × IsLawfulExponent at sign n
 
-  pub IsLawfulArguments : ℕ → Arguments → Type 0
-  IsLawfulArguments opened (argument s) = IsLawfulSum opened s
-  IsLawfulArguments opened (further args s) = IsLawfulArguments opened args × IsLawfulSum opened s
+  pub IsLawfulBase : Setting → ℕ → Base → Type 0
+  IsLawfulBase at opened (number n) = Unit {0}
+  IsLawfulBase at opened (name n) = IsLawfulLabel at n
+  IsLawfulBase at opened (dot p q) = IsLawfulLabel at p × IsLawfulLabel at q
+  IsLawfulBase at opened (delta spot a b) = (opened < most_open) × IsLawfulEntry at a × IsLawfulEntry at b
+  IsLawfulBase at opened (empty_call n) = (opened < most_open) × IsLawfulLabel at n
+  IsLawfulBase at opened (call n args) = (opened < most_open) × IsLawfulLabel at n × IsLawfulArguments at (opened + 1) args
+  IsLawfulBase at opened (parenthesis s) = (opened < most_open) × IsLawfulSum at (opened + 1) s
 
--- a right side, with its pieces
+  pub IsLawfulArguments : Setting → ℕ → Arguments → Type 0
+  IsLawfulArguments at opened (argument a) = IsLawfulArgument at opened a
+  IsLawfulArguments at opened (further args a) = IsLawfulArguments at opened args × IsLawfulArgument at opened a
+
+  pub IsLawfulArgument : Setting → ℕ → Argument → Type 0
+  IsLawfulArgument at opened (expression s) = IsLawfulSum at opened s
+  IsLawfulArgument at opened (field n) = HasFields at
+
+-- the right side of a definition
 abbrev pub IsLawful : Sum → Type 0
-IsLawful s = IsLawfulSum 0 s
+IsLawful s = IsLawfulSum Plain 0 s
 
--- the pieces are those of a lawful right side
+-- the pieces are those of such a right side
 pub record AreLawful (list : List Piece) : Type 0 where
   pub tree : Sum
   pub lawful : IsLawful tree
   pub pieces : list ≡ pieces_of_sum tree
 
+-- the pieces are those of a pattern
+pub record ArePattern (list : List Piece) : Type 0 where
+  pub tree : Sum
+  pub lawful : IsLawfulSum Pattern 0 tree
+  pub is_pattern : IsTrue (is_pattern tree)
+  pub pieces : list ≡ pieces_of_sum tree
+
+-- the pieces are those of a right side, whose powers by a name and fields are known from a pattern with these pieces
+pub record AreRight (pattern list : List Piece) : Type 0 where
+  pub tree : Sum
+  pub lawful : IsLawfulSum Right 0 tree
+  pub known : All (IsKnownPiece pattern) list
+  pub pieces : list ≡ pieces_of_sum tree
+
 abbrev pub IsLawfulStatement : Statement → Type 0
 IsLawfulStatement (Local spelled pieces) = AreLawful pieces
+IsLawfulStatement (Rewrite r) = ArePattern r.pattern × AreRight r.pattern r.right
 IsLawfulStatement _ = Unit {0}
 
--- each right side is a lawful one
+-- each right side and each pattern is a lawful one
 abbrev pub AreLawfulModules : List (List Placed) → Type 0
 AreLawfulModules modules = All (λ statements. All (λ placed. IsLawfulStatement placed.statement) statements) modules

@@ -1,3 +1,4 @@
 pub mod Building
 pub mod Lawful
+pub mod Patterns
 pub mod Syntax

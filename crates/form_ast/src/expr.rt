@@ -1,5 +1,6 @@
 ghost use Rattle.std.specs.Prelude.{◌≡◌};
 
+use crate::{NameList, NumberList};
 use form_base::{Name, Spot};
 use std::marker::Model;
 
@@ -36,7 +37,7 @@ pub struct Spelled {
     pub spot: Spot,
 }
 
-/// A name as a right side has it.
+/// A name as a right side or a pattern has it.
 #[derive(Debug, Drop, PartialEq, Eq)]
 pub enum Named {
     /// A name that a program declares.
@@ -45,11 +46,24 @@ pub enum Named {
     Imaginary(Spot),
 }
 
-/// An argument of `d_`.
-#[derive(Debug, Drop, PartialEq, Eq)]
-pub enum Entry {
-    Name(Named),
-    Number(Number),
+/// A written number with its sign, where it has one.
+#[derive(Clone, Copy, Debug, PartialEq, Eq)]
+pub struct SignedNumber {
+    pub sign: Option<Sign>,
+    pub number: Number,
+}
+
+/// What a wildcard may stand for, as it is written behind its mark.
+#[derive(Debug, Drop)]
+pub enum Restriction {
+    /// Nothing is written.
+    Any,
+    /// The elements of a set.
+    Set(Spelled),
+    /// These names, at least one.
+    Names(NameList),
+    /// These numbers, at least one.
+    Numbers(NumberList),
 }
 
 /// A written power: a number with a sign or none, in parentheses or without.
@@ -60,8 +74,9 @@ pub struct Power {
     pub number: Number,
 }
 
-/// A piece of a right side. It has 48 bytes, since a right side may have millions: what is large is a piece of its own.
-#[derive(Debug, Drop, PartialEq, Eq)]
+/// A piece of a right side or of a pattern. It has 48 bytes, since a right side may have millions: what is large is a
+/// piece of its own.
+#[derive(Debug, Drop)]
 pub enum Piece {
     /// A number as a factor.
     Number(Link, Number),
@@ -92,9 +107,15 @@ pub enum Piece {
     /// The power of the factor that ends before it, as `Power` has it: whether it is in parentheses, its sign and its
     /// number.
     Raised(bool, Option<Sign>, Number),
+    /// The power of the factor that ends before it, where it is a name: its sign and this name.
+    RaisedByName(Option<Sign>, Named),
+    /// The name in the piece before it is a wildcard, restricted so.
+    Marked(Restriction),
+    /// A field of arguments, which is a whole argument.
+    Field(Spelled),
 }
 
-/// A right side as it is written, flat, so that it is read, walked and dropped without recursion however deep it is: in
+/// A right side or a pattern as it is written, flat, so that it is read, walked and dropped without recursion however deep it is: in
 /// a clause the list of its pieces in the order of the text.
 #[derive(Debug, Drop)]
 pub struct Expr {

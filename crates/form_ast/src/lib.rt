@@ -1,13 +1,19 @@
-//! Statements as they are written: names with their spots, and right sides piece by piece.
+//! Statements as they are written: names with their spots, and right sides and patterns piece by piece.
 #![tactic(auto)]
 
 mod expr;
 mod index_list;
 pub mod laws;
 mod name_list;
+mod number_list;
+mod setting;
 mod statement;
+mod weight;
 
-pub use expr::{Entry, Expr, Link, Named, Number, Piece, Power, Sign, Spelled};
+pub use expr::{Expr, Link, Named, Number, Piece, Power, Restriction, Sign, SignedNumber, Spelled};
 pub use index_list::{Dimension, IndexList, SpelledIndex};
 pub use name_list::NameList;
-pub use statement::{Declared, Module, Placed, Statement};
+pub use number_list::NumberList;
+pub use setting::Setting;
+pub use statement::{Declared, Module, Placed, Rewrite, Statement, WrittenElements};
+pub use weight::{Key, Weight};

@@ -1,7 +1,7 @@
 ghost use Rattle.std.specs.Prelude.{◌≡◌};
 
-use crate::{Dimension, Expr, IndexList, NameList, Spelled};
-use form_base::Spot;
+use crate::{Dimension, Expr, IndexList, NameList, NumberList, Spelled};
+use form_base::{Spot, Taking};
 use std::marker::Model;
 
 /// What names are declared as.
@@ -15,6 +15,23 @@ pub enum Declared {
     CFunctions,
 }
 
+/// The elements of a set, at least one: names, or whole numbers with their signs.
+#[derive(Debug, Drop)]
+pub enum WrittenElements {
+    Names(NameList),
+    Numbers(NumberList),
+}
+
+/// An `id` or an `also`.
+#[derive(Debug, Drop)]
+pub struct Rewrite {
+    pub is_also: bool,
+    /// Its option, where one is written.
+    pub option: Option<Taking>,
+    pub pattern: Expr,
+    pub right: Expr,
+}
+
 /// A statement as it is written. No names at `Drop`, `Skip` and `Print` means all expressions.
 #[derive(Debug, Drop)]
 pub enum Statement {
@@ -23,11 +40,14 @@ pub enum Statement {
     Indices(IndexList),
     /// The dimension of the indices that are declared from here on without one.
     Dimension(Dimension),
+    /// A set with its elements.
+    Set(Spelled, WrittenElements),
     /// `On statistics` or `Off statistics`, which changes nothing.
     Statistics,
     Drop(NameList),
     Skip(NameList),
     Local(Spelled, Expr),
+    Rewrite(Rewrite),
     Print(NameList),
 }
 

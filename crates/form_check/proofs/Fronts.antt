@@ -1,20 +1,22 @@
 -- How the pieces of a sum begin, and what is seen of an argument there.
-use Rattle.std.proofs.Common.{◌≡◌, Bool, true, false, cond, List, [], ◌∷◌, ◌++◌, Option, Some, None, refl, sym, ap, ◌∙◌, append_assoc}
+use Rattle.std.proofs.Common.{◌≡◌, Bool, true, false, cond, List, [], ◌∷◌, ◌++◌, Option, Some, None, refl, sym, ap, subst, ◌∙◌, append_assoc}
 use Rattle.form_ast.specs.declared.expr.Sign.{Sign}
 use Rattle.form_ast.specs.declared.expr.Sign.TheVariants as signs
 use Rattle.form_ast.specs.declared.expr.Link.{Link}
 use Rattle.form_ast.specs.declared.expr.Link.TheVariants as links
-use Rattle.form_ast.specs.declared.expr.Entry.{Entry}
+use Rattle.form_ast.specs.declared.expr.Named.TheVariants.{Declared}
 use Rattle.form_ast.specs.declared.expr.Power.{Power}
 use Rattle.form_ast.specs.declared.expr.Piece.{Piece}
 use Rattle.form_ast.specs.declared.expr.Piece.TheVariants as written
-use Rattle.form_ast.specs.Syntax.{Sum, first, more, Product, one, times, over, Factor, factor, Base, number, name, dot, delta, empty_call, call, parenthesis, Arguments, link_of, first_link, piece_of_entry, piece_of_power, pieces_of_sum, pieces_of_product, pieces_of_factor, pieces_of_base, pieces_of_arguments}
+use Rattle.form_ast.specs.Syntax.{Label, named, wildcard, Entry, Sum, first, more, Product, one, times, over, Factor, factor, raised, Base, number, name, dot, delta, empty_call, call, parenthesis, link_of, first_link, name_of, mark_of, pieces_of_entry, piece_of_power, pieces_of_sum, pieces_of_product, pieces_of_factor, pieces_of_base, pieces_of_arguments}
 use Rattle.form_check.specs.RightSide.{alone}
-use Rattle.form_check.specs.Walking.{ends_argument, alone_piece, alone_before, power_at}
+use Rattle.form_check.specs.Walking.{ends_argument, alone_piece, alone_before, power_at, name_power_at}
+use Rattle.form_check.proofs.Bare.{IsBareSum, IsBareBase}
 
--- a piece isn't the end of arguments
+-- a piece is neither the end of arguments nor a field
 abbrev pub IsNoEnd : Piece → Type 0
 IsNoEnd written.EndOfCall = ⊥
+IsNoEnd (written.Field n) = ⊥
 IsNoEnd _ = Unit {0}
 
 -- how a text begins
@@ -42,7 +44,7 @@ front-base link (number n) = record {
   continues = λ rest. refl;
   unended = λ z zs e. unless (ends_argument (z ∷ zs)) (alone_piece (written.Number link n)) e;
 }
-front-base link (name n) = record {
+front-base link (name (named n)) = record {
   head = written.Name link n;
   tail = [];
   is = refl;
@@ -50,37 +52,45 @@ front-base link (name n) = record {
   continues = λ rest. refl;
   unended = λ z zs e. unless (ends_argument (z ∷ zs)) (alone_piece (written.Name link n)) e;
 }
-front-base link (dot p q) = record {
-  head = written.Dot link p;
-  tail = written.EndOfDot q ∷ [];
+front-base link (name (wildcard n r)) = record {
+  head = written.Name link (Declared n);
+  tail = written.Marked r ∷ [];
   is = refl;
   no_end = tt;
   continues = λ rest. refl;
   unended = λ z zs e. refl;
+}
+front-base link (dot p q) = record {
+  head = written.Dot link (name_of p);
+  tail = mark_of p ++ written.EndOfDot (name_of q) ∷ mark_of q;
+  is = refl;
+  no_end = tt;
+  continues = λ rest. refl;
+  unended = λ z zs e. neither (ends_argument ((mark_of p ++ written.EndOfDot (name_of q) ∷ mark_of q) ++ z ∷ zs));
 }
 front-base link (delta spot a c) = record {
   head = written.Delta link spot;
-  tail = piece_of_entry a ∷ piece_of_entry c ∷ written.EndOfDelta ∷ [];
+  tail = pieces_of_entry a ++ pieces_of_entry c ++ written.EndOfDelta ∷ [];
   is = refl;
   no_end = tt;
   continues = λ rest. refl;
-  unended = λ z zs e. neither (ends_argument (piece_of_entry a ∷ piece_of_entry c ∷ written.EndOfDelta ∷ z ∷ zs));
+  unended = λ z zs e. neither (ends_argument ((pieces_of_entry a ++ pieces_of_entry c ++ written.EndOfDelta ∷ []) ++ z ∷ zs));
 }
 front-base link (empty_call n) = record {
-  head = written.Call link n;
-  tail = written.EndOfCall ∷ [];
+  head = written.Call link (name_of n);
+  tail = mark_of n ++ written.EndOfCall ∷ [];
   is = refl;
   no_end = tt;
   continues = λ rest. refl;
-  unended = λ z zs e. refl;
+  unended = λ z zs e. neither (ends_argument ((mark_of n ++ written.EndOfCall ∷ []) ++ z ∷ zs));
 }
 front-base link (call n args) = record {
-  head = written.Call link n;
-  tail = pieces_of_arguments args ++ written.EndOfCall ∷ [];
+  head = written.Call link (name_of n);
+  tail = mark_of n ++ pieces_of_arguments args ++ written.EndOfCall ∷ [];
   is = refl;
   no_end = tt;
   continues = λ rest. refl;
-  unended = λ z zs e. neither (ends_argument ((pieces_of_arguments args ++ written.EndOfCall ∷ []) ++ z ∷ zs));
+  unended = λ z zs e. neither (ends_argument ((mark_of n ++ pieces_of_arguments args ++ written.EndOfCall ∷ []) ++ z ∷ zs));
 }
 front-base link (parenthesis s) = record {
   head = written.Open link;
@@ -99,6 +109,16 @@ front-power p = record {
   no_end = tt;
   continues = λ rest. refl;
   unended = λ z zs e. neither (ends_argument (z ∷ zs));
+}
+
+pub front-name-power : (sign : Option Sign) (n : Label) → Front (written.RaisedByName sign (name_of n) ∷ mark_of n)
+front-name-power sign n = record {
+  head = written.RaisedByName sign (name_of n);
+  tail = mark_of n;
+  is = refl;
+  no_end = tt;
+  continues = λ rest. refl;
+  unended = λ z zs e. neither (ends_argument (mark_of n ++ z ∷ zs));
 }
 
 -- what begins with an unended text
@@ -120,6 +140,7 @@ front-append a b f g = record {
 pub front-factor : (link : Link) (f : Factor) → Front (pieces_of_factor link f)
 front-factor link (factor b None) = front-base link b
 front-factor link (factor b (Some p)) = front-append (pieces_of_base link b) (piece_of_power p ∷ []) (front-base link b) (front-power p)
+front-factor link (raised b sign n) = front-append (pieces_of_base link b) (written.RaisedByName sign (name_of n) ∷ mark_of n) (front-base link b) (front-name-power sign n)
 
 pub front-product : (link : Link) (p : Product) → Front (pieces_of_product link p)
 front-product link (one f) = front-factor link f
@@ -137,43 +158,55 @@ module _ (y : Piece) (rest : List Piece) (stops : ends_argument (y ∷ rest) ≡
 
   -- what has a power isn't alone
   raised-behind : (link : Link) (b : Base) (p : Power) → alone_before (((front-base link b).tail ++ piece_of_power p ∷ []) ++ y ∷ rest) (front-base link b).head ≡ None
-  raised-behind link b p = behind _ _ (front-base link b) (front-power p) (y ∷ rest)
+  raised-behind link b p = behind (pieces_of_base link b) (piece_of_power p ∷ []) (front-base link b) (front-power p) (y ∷ rest)
 
-  peek-factor : (sign : Option Sign) (f : Factor) → alone_before ((front-factor (first_link sign) f).tail ++ y ∷ rest) (front-factor (first_link sign) f).head ≡ alone (first sign (one f))
-  unfolding front-factor front-base front-power front-append
-  peek-factor None (factor (number n) None) = passes _
-  peek-factor (Some signs.Plus) (factor (number n) None) = passes _
-  peek-factor (Some signs.Minus) (factor (number n) None) = passes _
-  peek-factor None (factor (name n) None) = passes _
-  peek-factor (Some signs.Plus) (factor (name n) None) = passes _
-  peek-factor (Some signs.Minus) (factor (name n) None) = passes _
-  peek-factor None (factor (dot p q) None) = refl
-  peek-factor (Some sign) (factor (dot p q) None) = refl
-  peek-factor None (factor (delta spot a c) None) = neither (ends_argument (piece_of_entry a ∷ piece_of_entry c ∷ written.EndOfDelta ∷ y ∷ rest))
-  peek-factor (Some sign) (factor (delta spot a c) None) = neither (ends_argument (piece_of_entry a ∷ piece_of_entry c ∷ written.EndOfDelta ∷ y ∷ rest))
-  peek-factor None (factor (empty_call n) None) = refl
-  peek-factor (Some sign) (factor (empty_call n) None) = refl
-  peek-factor None (factor (call n args) None) = neither (ends_argument ((pieces_of_arguments args ++ written.EndOfCall ∷ []) ++ y ∷ rest))
-  peek-factor (Some sign) (factor (call n args) None) = neither (ends_argument ((pieces_of_arguments args ++ written.EndOfCall ∷ []) ++ y ∷ rest))
-  peek-factor None (factor (parenthesis s) None) = neither (ends_argument ((pieces_of_sum s ++ written.Close ∷ []) ++ y ∷ rest))
-  peek-factor (Some sign) (factor (parenthesis s) None) = neither (ends_argument ((pieces_of_sum s ++ written.Close ∷ []) ++ y ∷ rest))
-  peek-factor None (factor (number n) (Some p)) = raised-behind (first_link None) (number n) p
-  peek-factor None (factor (name n) (Some p)) = raised-behind (first_link None) (name n) p
-  peek-factor None (factor (dot q r) (Some p)) = raised-behind (first_link None) (dot q r) p
-  peek-factor None (factor (delta spot a c) (Some p)) = raised-behind (first_link None) (delta spot a c) p
-  peek-factor None (factor (empty_call n) (Some p)) = raised-behind (first_link None) (empty_call n) p
-  peek-factor None (factor (call n args) (Some p)) = raised-behind (first_link None) (call n args) p
-  peek-factor None (factor (parenthesis s) (Some p)) = raised-behind (first_link None) (parenthesis s) p
-  peek-factor (Some sign) (factor b (Some p)) = raised-behind (first_link (Some sign)) b p
+  -- a base alone
+  peek-base : (sign : Option Sign) (b : Base) → IsBareBase b → alone_before ((front-base (first_link sign) b).tail ++ y ∷ rest) (front-base (first_link sign) b).head ≡ alone (first sign (one (factor b None)))
+  unfolding front-base
+  peek-base None (number n) h = passes _
+  peek-base (Some signs.Plus) (number n) h = passes _
+  peek-base (Some signs.Minus) (number n) h = passes _
+  peek-base None (name (named n)) h = passes _
+  peek-base (Some signs.Plus) (name (named n)) h = passes _
+  peek-base (Some signs.Minus) (name (named n)) h = passes _
+  peek-base sign (name (wildcard n r)) h = absurd h
+  peek-base None (dot p q) h = neither (ends_argument ((mark_of p ++ written.EndOfDot (name_of q) ∷ mark_of q) ++ y ∷ rest))
+  peek-base (Some sign) (dot p q) h = neither (ends_argument ((mark_of p ++ written.EndOfDot (name_of q) ∷ mark_of q) ++ y ∷ rest))
+  peek-base None (delta spot a c) h = neither (ends_argument ((pieces_of_entry a ++ pieces_of_entry c ++ written.EndOfDelta ∷ []) ++ y ∷ rest))
+  peek-base (Some sign) (delta spot a c) h = neither (ends_argument ((pieces_of_entry a ++ pieces_of_entry c ++ written.EndOfDelta ∷ []) ++ y ∷ rest))
+  peek-base None (empty_call n) h = neither (ends_argument ((mark_of n ++ written.EndOfCall ∷ []) ++ y ∷ rest))
+  peek-base (Some sign) (empty_call n) h = neither (ends_argument ((mark_of n ++ written.EndOfCall ∷ []) ++ y ∷ rest))
+  peek-base None (call n args) h = neither (ends_argument ((mark_of n ++ pieces_of_arguments args ++ written.EndOfCall ∷ []) ++ y ∷ rest))
+  peek-base (Some sign) (call n args) h = neither (ends_argument ((mark_of n ++ pieces_of_arguments args ++ written.EndOfCall ∷ []) ++ y ∷ rest))
+  peek-base None (parenthesis s) h = neither (ends_argument ((pieces_of_sum s ++ written.Close ∷ []) ++ y ∷ rest))
+  peek-base (Some sign) (parenthesis s) h = neither (ends_argument ((pieces_of_sum s ++ written.Close ∷ []) ++ y ∷ rest))
 
-  pub peek : (s : Sum) → alone_before ((front-sum s).tail ++ y ∷ rest) (front-sum s).head ≡ alone s
-  unfolding front-sum front-factor front-base front-product front-append
-  peek (first sign (one f)) = peek-factor sign f
-  peek (first None (times p f)) = behind _ _ (front-product (first_link None) p) (front-factor links.Times f) (y ∷ rest)
-  peek (first (Some sign) (times p f)) = behind _ _ (front-product (first_link (Some sign)) p) (front-factor links.Times f) (y ∷ rest)
-  peek (first None (over p f)) = behind _ _ (front-product (first_link None) p) (front-factor links.Over f) (y ∷ rest)
-  peek (first (Some sign) (over p f)) = behind _ _ (front-product (first_link (Some sign)) p) (front-factor links.Over f) (y ∷ rest)
-  peek (more s sign p) = behind _ _ (front-sum s) (front-product (link_of sign) p) (y ∷ rest)
+  none-alone : (sign : Option Sign) (b : Base) (p : Power) → alone (first sign (one (factor b (Some p)))) ≡ None
+  none-alone None (number n) p = refl
+  none-alone None (name n) p = refl
+  none-alone None (dot q r) p = refl
+  none-alone None (delta spot a c) p = refl
+  none-alone None (empty_call n) p = refl
+  none-alone None (call n args) p = refl
+  none-alone None (parenthesis s) p = refl
+  none-alone (Some sign) b p = refl
+
+  raised-alone : (sign : Option Sign) (b : Base) (s : Option Sign) (n : Label) → alone (first sign (one (raised b s n))) ≡ None
+  raised-alone None b s n = refl
+  raised-alone (Some sign) b s n = refl
+
+  pub peek : (s : Sum) → IsBareSum s → alone_before ((front-sum s).tail ++ y ∷ rest) (front-sum s).head ≡ alone s
+  unfolding front-sum front-factor front-product front-append
+  peek (first sign (one (factor b None))) h = peek-base sign b h
+  peek (first sign (one (factor b (Some p)))) h = raised-behind (first_link sign) b p ∙ sym (none-alone sign b p)
+  peek (first sign (one (raised b s n))) h =
+      behind (pieces_of_base (first_link sign) b) (written.RaisedByName s (name_of n) ∷ mark_of n) (front-base (first_link sign) b) (front-name-power s n) (y ∷ rest)
+      ∙ sym (raised-alone sign b s n)
+  peek (first None (times p f)) h = behind _ _ (front-product (first_link None) p) (front-factor links.Times f) (y ∷ rest)
+  peek (first (Some sign) (times p f)) h = behind _ _ (front-product (first_link (Some sign)) p) (front-factor links.Times f) (y ∷ rest)
+  peek (first None (over p f)) h = behind _ _ (front-product (first_link None) p) (front-factor links.Over f) (y ∷ rest)
+  peek (first (Some sign) (over p f)) h = behind _ _ (front-product (first_link (Some sign)) p) (front-factor links.Over f) (y ∷ rest)
+  peek (more s sign p) h = behind _ _ (front-sum s) (front-product (link_of sign) p) (y ∷ rest)
 
 -- a sum that is alone is one piece
 pub record IsAlone (s : Sum) (e : Entry) : Type 0 where
@@ -182,55 +215,65 @@ pub record IsAlone (s : Sum) (e : Entry) : Type 0 where
   pub seen : alone_piece piece ≡ Some e
   pub no_end : IsNoEnd piece
 
-pub alone-is : (s : Sum) (e : Entry) → alone s ≡ Some e → IsAlone s e
-alone-is (first None (one (factor (number n) None))) e h = record { piece = written.Number links.First n; is = refl; seen = h; no_end = tt }
-alone-is (first None (one (factor (name n) None))) e h = record { piece = written.Name links.First n; is = refl; seen = h; no_end = tt }
-alone-is (first None (one (factor (number n) (Some power)))) e h = absurd cc
-alone-is (first None (one (factor (name n) (Some power)))) e h = absurd cc
-alone-is (first None (one (factor (dot p q) power))) e h = absurd cc
-alone-is (first None (one (factor (delta spot a c) power))) e h = absurd cc
-alone-is (first None (one (factor (empty_call n) power))) e h = absurd cc
-alone-is (first None (one (factor (call n args) power))) e h = absurd cc
-alone-is (first None (one (factor (parenthesis s) power))) e h = absurd cc
-alone-is (first None (times p f)) e h = absurd cc
-alone-is (first None (over p f)) e h = absurd cc
-alone-is (first (Some sign) p) e h = absurd cc
-alone-is (more s sign p) e h = absurd cc
+pub alone-is : (s : Sum) (e : Entry) → IsBareSum s → alone s ≡ Some e → IsAlone s e
+alone-is (first None (one (factor (number n) None))) e b h = record { piece = written.Number links.First n; is = refl; seen = h; no_end = tt }
+alone-is (first None (one (factor (name (named n)) None))) e b h = record { piece = written.Name links.First n; is = refl; seen = h; no_end = tt }
+alone-is (first None (one (factor (name (wildcard n r)) None))) e b h = absurd b
+alone-is (first None (one (factor (number n) (Some power)))) e b h = absurd cc
+alone-is (first None (one (factor (name n) (Some power)))) e b h = absurd cc
+alone-is (first None (one (factor (dot p q) power))) e b h = absurd cc
+alone-is (first None (one (factor (delta spot a c) power))) e b h = absurd cc
+alone-is (first None (one (factor (empty_call n) power))) e b h = absurd cc
+alone-is (first None (one (factor (call n args) power))) e b h = absurd cc
+alone-is (first None (one (factor (parenthesis s) power))) e b h = absurd cc
+alone-is (first None (one (raised d s n))) e b h = absurd cc
+alone-is (first None (times p f)) e b h = absurd cc
+alone-is (first None (over p f)) e b h = absurd cc
+alone-is (first (Some sign) p) e b h = absurd cc
+alone-is (more s sign p) e b h = absurd cc
 
--- ---- no power stands there
+-- ---- no power stands there, neither a number nor a name
 
-pub plain-base : (link : Link) (b : Base) (rest : List Piece) → power_at (pieces_of_base link b ++ rest) ≡ None
-plain-base link (number n) rest = refl
-plain-base link (name n) rest = refl
-plain-base link (dot p q) rest = refl
-plain-base link (delta spot a c) rest = refl
-plain-base link (empty_call n) rest = refl
-plain-base link (call n args) rest = refl
-plain-base link (parenthesis s) rest = refl
+abbrev pub IsPlain : List Piece → Type 0
+IsPlain rest = (power_at rest ≡ None) × (name_power_at rest ≡ None)
 
-pub plain-factor : (link : Link) (f : Factor) (rest : List Piece) → power_at (pieces_of_factor link f ++ rest) ≡ None
+pub plain-base : (link : Link) (b : Base) (rest : List Piece) → IsPlain (pieces_of_base link b ++ rest)
+plain-base link (number n) rest = (refl, refl)
+plain-base link (name n) rest = (refl, refl)
+plain-base link (dot p q) rest = (refl, refl)
+plain-base link (delta spot a c) rest = (refl, refl)
+plain-base link (empty_call n) rest = (refl, refl)
+plain-base link (call n args) rest = (refl, refl)
+plain-base link (parenthesis s) rest = (refl, refl)
+
+pub plain-factor : (link : Link) (f : Factor) (rest : List Piece) → IsPlain (pieces_of_factor link f ++ rest)
 plain-factor link (factor b None) rest = plain-base link b rest
-plain-factor link (factor b (Some p)) rest = ap power_at (append_assoc (pieces_of_base link b) (piece_of_power p ∷ []) rest) ∙ plain-base link b (piece_of_power p ∷ rest)
+plain-factor link (factor b (Some p)) rest = subst IsPlain (sym (append_assoc (pieces_of_base link b) (piece_of_power p ∷ []) rest)) (plain-base link b (piece_of_power p ∷ rest))
+plain-factor link (raised b sign n) rest =
+    subst IsPlain (sym (append_assoc (pieces_of_base link b) (written.RaisedByName sign (name_of n) ∷ mark_of n) rest)) (plain-base link b (written.RaisedByName sign (name_of n) ∷ mark_of n ++ rest))
 
-pub plain-product : (link : Link) (p : Product) (rest : List Piece) → power_at (pieces_of_product link p ++ rest) ≡ None
+pub plain-product : (link : Link) (p : Product) (rest : List Piece) → IsPlain (pieces_of_product link p ++ rest)
 plain-product link (one f) rest = plain-factor link f rest
 plain-product link (times p f) rest =
-    ap power_at (append_assoc (pieces_of_product link p) (pieces_of_factor links.Times f) rest) ∙ plain-product link p (pieces_of_factor links.Times f ++ rest)
+    subst IsPlain (sym (append_assoc (pieces_of_product link p) (pieces_of_factor links.Times f) rest)) (plain-product link p (pieces_of_factor links.Times f ++ rest))
 plain-product link (over p f) rest =
-    ap power_at (append_assoc (pieces_of_product link p) (pieces_of_factor links.Over f) rest) ∙ plain-product link p (pieces_of_factor links.Over f ++ rest)
+    subst IsPlain (sym (append_assoc (pieces_of_product link p) (pieces_of_factor links.Over f) rest)) (plain-product link p (pieces_of_factor links.Over f ++ rest))
 
-pub plain-end : (y : Piece) (rest : List Piece) → ends_argument (y ∷ rest) ≡ true → power_at (y ∷ rest) ≡ None
-plain-end written.Comma rest e = refl
-plain-end written.EndOfCall rest e = refl
-plain-end (written.Number link n) rest e = refl
-plain-end (written.Name link n) rest e = refl
-plain-end (written.Dot link n) rest e = refl
-plain-end (written.EndOfDot n) rest e = refl
-plain-end (written.Delta link spot) rest e = refl
-plain-end (written.EntryName n) rest e = refl
-plain-end (written.EntryNumber n) rest e = refl
-plain-end written.EndOfDelta rest e = refl
-plain-end (written.Call link n) rest e = refl
-plain-end (written.Open link) rest e = refl
-plain-end written.Close rest e = refl
+pub plain-end : (y : Piece) (rest : List Piece) → ends_argument (y ∷ rest) ≡ true → IsPlain (y ∷ rest)
+plain-end written.Comma rest e = (refl, refl)
+plain-end written.EndOfCall rest e = (refl, refl)
+plain-end (written.Number link n) rest e = (refl, refl)
+plain-end (written.Name link n) rest e = (refl, refl)
+plain-end (written.Dot link n) rest e = (refl, refl)
+plain-end (written.EndOfDot n) rest e = (refl, refl)
+plain-end (written.Delta link spot) rest e = (refl, refl)
+plain-end (written.EntryName n) rest e = (refl, refl)
+plain-end (written.EntryNumber n) rest e = (refl, refl)
+plain-end written.EndOfDelta rest e = (refl, refl)
+plain-end (written.Call link n) rest e = (refl, refl)
+plain-end (written.Open link) rest e = (refl, refl)
+plain-end written.Close rest e = (refl, refl)
 plain-end (written.Raised is_parenthesized sign n) rest e = absurd cc
+plain-end (written.RaisedByName sign n) rest e = absurd cc
+plain-end (written.Marked r) rest e = (refl, refl)
+plain-end (written.Field n) rest e = (refl, refl)

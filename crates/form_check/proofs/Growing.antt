@@ -4,14 +4,17 @@ use Rattle.std.proofs.lemmas.Bool.{eqb-true}
 use Rattle.form_base.specs.declared.cause.Cause.{Cause}
 use Rattle.form_base.specs.declared.spot.Spot.{Spot}
 use Rattle.form_names.specs.declared.kind.Kind.{Kind}
-use Rattle.form_names.specs.declared.kind.Kind.TheVariants.{Symbol, Vector, Index, Function, CommutingFunction, Expression}
+use Rattle.form_names.specs.declared.kind.Kind.TheVariants.{Symbol, Vector, Index, Function, CommutingFunction, Expression, Set}
 use Rattle.form_names.specs.declared.kind.Dimension.{Dimension}
 use Rattle.form_names.specs.declared.kind.Dimension.TheVariants as dimensions
-use Rattle.form_names.specs.Names.{Entry, lookup, kind_at, declare, is_same_kind, declared_at, declared_alike, IsDimension}
+use Rattle.form_names.specs.Names.{Entry, lookup, kind_at, declare, is_same_kind, declared_at, declared_alike, elements_at, has_elements, set_declared_at, IsDimension}
+use Rattle.form_names.specs.declared.elements.Elements.{Elements}
 use Rattle.form_ast.specs.declared.expr.Spelled.{Spelled}
+use Rattle.form_ast.specs.declared.statement.WrittenElements.{WrittenElements}
 use Rattle.form_ast.specs.declared.index_list.SpelledIndex.{SpelledIndex}
 use Rattle.form_check.specs.Checker.{Keeps, KeepsDimensions}
-use Rattle.form_check.specs.Checking.{declared, declared_once, named, dimension_or, is_past_limit, index_with, index}
+use Rattle.form_check.specs.Checking.{declared, declared_once, named, dimension_or, is_past_limit, index_with, index, set_once, set_with, set}
+use Rattle.form_check.specs.Sets.{elements as checked_elements}
 use Rattle.form_check.specs.Refusal.{Refusal, refused, ◌>>=◌, each}
 
 -- ---- results
@@ -58,36 +61,49 @@ same_kind Symbol (Index e) is = cc
 same_kind Symbol Function is = cc
 same_kind Symbol CommutingFunction is = cc
 same_kind Symbol Expression is = cc
+same_kind Symbol Set is = cc
 same_kind Vector Symbol is = cc
 same_kind Vector Vector is = refl
 same_kind Vector (Index e) is = cc
 same_kind Vector Function is = cc
 same_kind Vector CommutingFunction is = cc
 same_kind Vector Expression is = cc
+same_kind Vector Set is = cc
 same_kind (Index d) Symbol is = cc
 same_kind (Index d) Vector is = cc
 same_kind (Index d) (Index e) is = ap Index (same_dimension d e is)
 same_kind (Index d) Function is = cc
 same_kind (Index d) CommutingFunction is = cc
 same_kind (Index d) Expression is = cc
+same_kind (Index d) Set is = cc
 same_kind Function Symbol is = cc
 same_kind Function Vector is = cc
 same_kind Function (Index e) is = cc
 same_kind Function Function is = refl
 same_kind Function CommutingFunction is = cc
 same_kind Function Expression is = cc
+same_kind Function Set is = cc
 same_kind CommutingFunction Symbol is = cc
 same_kind CommutingFunction Vector is = cc
 same_kind CommutingFunction (Index e) is = cc
 same_kind CommutingFunction Function is = cc
 same_kind CommutingFunction CommutingFunction is = refl
 same_kind CommutingFunction Expression is = cc
+same_kind CommutingFunction Set is = cc
 same_kind Expression Symbol is = cc
 same_kind Expression Vector is = cc
 same_kind Expression (Index e) is = cc
 same_kind Expression Function is = cc
 same_kind Expression CommutingFunction is = cc
 same_kind Expression Expression is = refl
+same_kind Expression Set is = cc
+same_kind Set Symbol is = cc
+same_kind Set Vector is = cc
+same_kind Set (Index e) is = cc
+same_kind Set Function is = cc
+same_kind Set CommutingFunction is = cc
+same_kind Set Expression is = cc
+same_kind Set Set is = refl
 
 -- what a declaration leaves
 pub record Declares (old : List Entry) (kind : Kind) (id : ℕ) (new : List Entry) : Type 0 where
@@ -116,7 +132,7 @@ alike (Some other) kind place id names new at is = by (is_same_kind other kind) 
 
 at_place : (place : Option ℕ) (names new : List Entry) (name : List ℕ) (kind : Kind) (id : ℕ) → declared_at place names name kind ≡ Some (id, new) → Declares names kind id new
 at_place None names new name kind id is =
-    let e : Entry = record { name = name; kind = kind } in
+    let e : Entry = record { name = name; kind = kind; elements = None } in
     let pair : (length names, names ++ e ∷ []) ≡ (id, new) = some_same is in
     record {
       grows = λ i k h. subst (λ (p : ℕ × List Entry). kind_at p.1 i ≡ Some k) pair (grows-append names (e ∷ []) i k h);
@@ -151,6 +167,30 @@ pub index-keeps : (default : Dimension) (names new : List Entry) (i : SpelledInd
 index-keeps default names new i is =
     let fits = else-Ok (is_past_limit names (lookup names i.name.name)) (index_with names i.name (lookup names i.name.name) (dimension_or default names i.dimension)) _ _ new is in
     index-with names new i.name (lookup names i.name.name) (dimension_or default names i.dimension) fits.1
+
+set-placed : (names new : List Entry) (s : Spelled) (es : Elements) (place : Option ℕ) → set_once (set_declared_at place names s.name es) s ≡ Ok new → Keeps names new
+set-placed names new s es None is =
+    let e : Entry = record { name = s.name; kind = Set; elements = Some es } in
+    let same : names ++ e ∷ [] ≡ new = ok_same is in
+    λ i k h. subst (λ (n : List Entry). kind_at n i ≡ Some k) same (grows-append names (e ∷ []) i k h)
+set-placed names new s es (Some id) is = by (has_elements (elements_at names id) es) is
+  where
+    found : Option (ℕ × List Entry)
+    found = Some (id, names)
+
+    by : (b : Bool) → set_once (if b then found else None) s ≡ Ok new → Keeps names new
+    by true is = let same : names ≡ new = ok_same is in λ i k h. subst (λ (n : List Entry). kind_at n i ≡ Some k) same h
+    by false is = cc
+
+set-with : (names new : List Entry) (s : Spelled) (place : Option ℕ) (es : Result Elements Refusal) → set_with names s place es ≡ Ok new → Keeps names new
+set-with names new s place (Ok es) is = set-placed names new s es (lookup names s.name) is
+set-with names new s None (Err e) is = cc
+set-with names new s (Some id) (Err e) is = cc
+
+pub set-keeps : (names new : List Entry) (s : Spelled) (es : WrittenElements) → set names s es ≡ Ok new → Keeps names new
+set-keeps names new s es is =
+    let fits = else-Ok (is_past_limit names (lookup names s.name)) (set_with names s (lookup names s.name) (checked_elements names es)) _ _ new is in
+    set-with names new s (lookup names s.name) (checked_elements names es) fits.1
 
 -- what each step keeps is kept by all
 pub all-keep : {X : Type 0} (step : List Entry → X → Result (List Entry) Refusal) → ((names new : List Entry) (x : X) → step names x ≡ Ok new → Keeps names new)

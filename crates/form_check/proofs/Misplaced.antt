@@ -1,18 +1,18 @@
 -- Names that can't stand in the parentheses of a vector, and the commas there.
 use Rattle.std.proofs.Common.{◌≡◌, ℕ, suc, List, [], ◌∷◌, ◌++◌, refl, sym, ap, ◌∙◌, append_assoc, add-one, false}
-use Rattle.std.proofs.lemmas.List.{append-nil}
 use Rattle.form_names.specs.Names.{Entry}
 use Rattle.form_ast.specs.declared.expr.Link.{Link}
 use Rattle.form_ast.specs.declared.expr.Link.TheVariants as links
-use Rattle.form_ast.specs.declared.expr.Entry.TheVariants as entries
+use Rattle.form_ast.specs.declared.expr.Sign.{Sign}
 use Rattle.form_ast.specs.declared.expr.Power.{Power}
 use Rattle.form_ast.specs.declared.expr.Piece.{Piece}
 use Rattle.form_ast.specs.declared.expr.Piece.TheVariants as written
-use Rattle.form_ast.specs.Syntax.{Sum, first, more, Product, one, times, over, Factor, factor, Base, number, name, dot, delta, empty_call, call, parenthesis, Arguments, argument, further, link_of, first_link, piece_of_power, pieces_of_sum, pieces_of_product, pieces_of_factor, pieces_of_base, pieces_of_arguments}
+use Rattle.form_ast.specs.Syntax as syntax
+use Rattle.form_ast.specs.Syntax.{Label, named, wildcard, name_entry, number_entry, Sum, first, more, Product, one, times, over, Factor, factor, raised, Base, number, name, dot, delta, empty_call, call, parenthesis, Arguments, argument, further, Argument, expression, field, link_of, first_link, name_of, mark_of, pieces_of_entry, piece_of_power, pieces_of_sum, pieces_of_product, pieces_of_factor, pieces_of_base, pieces_of_arguments, pieces_of_argument}
 use Rattle.form_check.specs.Refusal.{Refusal}
 use Rattle.form_check.specs.RightSide.{first_misplaced}
 use Rattle.form_check.specs.Walking.{is_single, misplaced_to_end}
-use Rattle.std.specs.Prelude.{Some, None}
+use Rattle.std.specs.Prelude.{Option, Some, None}
 use Rattle.form_check.proofs.Binding.{minus-one, not-zero}
 
 -- ---- commas
@@ -24,6 +24,17 @@ ends-one k rest = rw (not-zero k, minus-one k) refl
 passes-power : (p : Power) (k : ℕ) (rest : List Piece) → is_single k (piece_of_power p ∷ rest) ≡ is_single k rest
 unfolding is_single
 passes-power p k rest = refl
+
+passes-mark : (n : Label) (k : ℕ) (rest : List Piece) → is_single k (mark_of n ++ rest) ≡ is_single k rest
+unfolding is_single
+passes-mark (named n) k rest = refl
+passes-mark (wildcard n r) k rest = refl
+
+passes-entry : (e : syntax.Entry) (k : ℕ) (rest : List Piece) → is_single k (pieces_of_entry e ++ rest) ≡ is_single k rest
+unfolding is_single
+passes-entry (name_entry (named n)) k rest = refl
+passes-entry (name_entry (wildcard n r)) k rest = refl
+passes-entry (number_entry n) k rest = refl
 
 passes-comma : (k : ℕ) (rest : List Piece) → is_single (suc k) (written.Comma ∷ rest) ≡ is_single (suc k) rest
 unfolding is_single
@@ -52,20 +63,29 @@ mutual
   single-factor link (factor b (Some p)) k rest =
       ap (is_single k) (append_assoc (pieces_of_base link b) (piece_of_power p ∷ []) rest)
       ∙ single-base link b k (piece_of_power p ∷ rest) ∙ passes-power p k rest
+  single-factor link (raised b sign n) k rest =
+      ap (is_single k) (append_assoc (pieces_of_base link b) (written.RaisedByName sign (name_of n) ∷ mark_of n) rest)
+      ∙ single-base link b k (written.RaisedByName sign (name_of n) ∷ mark_of n ++ rest) ∙ passes-mark n k rest
 
   single-base : (link : Link) (b : Base) (k : ℕ) (rest : List Piece) → is_single k (pieces_of_base link b ++ rest) ≡ is_single k rest
   single-base link (number n) k rest = refl
-  single-base link (name n) k rest = refl
-  single-base link (dot p q) k rest = refl
-  single-base link (delta spot (entries.Name a) (entries.Name c)) k rest = refl
-  single-base link (delta spot (entries.Name a) (entries.Number c)) k rest = refl
-  single-base link (delta spot (entries.Number a) (entries.Name c)) k rest = refl
-  single-base link (delta spot (entries.Number a) (entries.Number c)) k rest = refl
+  single-base link (name n) k rest = passes-mark n k rest
+  single-base link (dot p q) k rest =
+      ap (is_single k) (append_assoc (mark_of p) (written.EndOfDot (name_of q) ∷ mark_of q) rest)
+      ∙ passes-mark p k (written.EndOfDot (name_of q) ∷ mark_of q ++ rest) ∙ passes-mark q k rest
+  single-base link (delta spot a c) k rest =
+      ap (is_single k) (append_assoc (pieces_of_entry a ++ pieces_of_entry c) (written.EndOfDelta ∷ []) rest ∙ append_assoc (pieces_of_entry a) (pieces_of_entry c) (written.EndOfDelta ∷ rest))
+      ∙ passes-entry a k (pieces_of_entry c ++ written.EndOfDelta ∷ rest)
+      ∙ passes-entry c k (written.EndOfDelta ∷ rest)
   single-base link (empty_call n) k rest =
-      ap (λ (m : ℕ). is_single m (written.EndOfCall ∷ rest)) (add-one k) ∙ ends-one k rest
+      ap (λ (m : ℕ). is_single m ((mark_of n ++ written.EndOfCall ∷ []) ++ rest)) (add-one k)
+      ∙ ap (is_single (suc k)) (append_assoc (mark_of n) (written.EndOfCall ∷ []) rest)
+      ∙ passes-mark n (suc k) (written.EndOfCall ∷ rest)
+      ∙ ends-one k rest
   single-base link (call n args) k rest =
-      ap (λ (m : ℕ). is_single m ((pieces_of_arguments args ++ written.EndOfCall ∷ []) ++ rest)) (add-one k)
-      ∙ ap (is_single (suc k)) (append_assoc (pieces_of_arguments args) (written.EndOfCall ∷ []) rest)
+      ap (λ (m : ℕ). is_single m ((mark_of n ++ pieces_of_arguments args ++ written.EndOfCall ∷ []) ++ rest)) (add-one k)
+      ∙ ap (is_single (suc k)) (append_assoc (mark_of n ++ pieces_of_arguments args) (written.EndOfCall ∷ []) rest ∙ append_assoc (mark_of n) (pieces_of_arguments args) (written.EndOfCall ∷ rest))
+      ∙ passes-mark n (suc k) (pieces_of_arguments args ++ written.EndOfCall ∷ rest)
       ∙ single-arguments args k (written.EndOfCall ∷ rest)
       ∙ ends-one k rest
   single-base link (parenthesis s) k rest =
@@ -73,22 +93,26 @@ mutual
       ∙ single-sum s k (written.Close ∷ rest)
 
   single-arguments : (args : Arguments) (k : ℕ) (rest : List Piece) → is_single (suc k) (pieces_of_arguments args ++ rest) ≡ is_single (suc k) rest
-  single-arguments (argument s) k rest = single-sum s (suc k) rest
-  single-arguments (further args s) k rest =
-      ap (is_single (suc k)) (append_assoc (pieces_of_arguments args) (written.Comma ∷ pieces_of_sum s) rest)
-      ∙ single-arguments args k (written.Comma ∷ pieces_of_sum s ++ rest)
-      ∙ passes-comma k (pieces_of_sum s ++ rest)
-      ∙ single-sum s (suc k) rest
+  single-arguments (argument a) k rest = single-argument a (suc k) rest
+  single-arguments (further args a) k rest =
+      ap (is_single (suc k)) (append_assoc (pieces_of_arguments args) (written.Comma ∷ pieces_of_argument a) rest)
+      ∙ single-arguments args k (written.Comma ∷ pieces_of_argument a ++ rest)
+      ∙ passes-comma k (pieces_of_argument a ++ rest)
+      ∙ single-argument a (suc k) rest
+
+  pub single-argument : (a : Argument) (k : ℕ) (rest : List Piece) → is_single k (pieces_of_argument a ++ rest) ≡ is_single k rest
+  single-argument (expression s) k rest = single-sum s k rest
+  single-argument (field n) k rest = refl
 
 -- a comma parts arguments
-pub parted : (args : Arguments) (s : Sum) (rest : List Piece) → is_single 0 (pieces_of_arguments (further args s) ++ rest) ≡ false
+pub parted : (args : Arguments) (a : Argument) (rest : List Piece) → is_single 0 (pieces_of_arguments (further args a) ++ rest) ≡ false
 unfolding is_single
-parted (argument t) s rest =
-    ap (is_single 0) (append_assoc (pieces_of_sum t) (written.Comma ∷ pieces_of_sum s) rest)
-    ∙ single-sum t 0 (written.Comma ∷ pieces_of_sum s ++ rest)
-parted (further args t) s rest =
-    ap (is_single 0) (append_assoc (pieces_of_arguments (further args t)) (written.Comma ∷ pieces_of_sum s) rest)
-    ∙ parted args t (written.Comma ∷ pieces_of_sum s ++ rest)
+parted (argument b) a rest =
+    ap (is_single 0) (append_assoc (pieces_of_argument b) (written.Comma ∷ pieces_of_argument a) rest)
+    ∙ single-argument b 0 (written.Comma ∷ pieces_of_argument a ++ rest)
+parted (further args b) a rest =
+    ap (is_single 0) (append_assoc (pieces_of_arguments (further args b)) (written.Comma ∷ pieces_of_argument a) rest)
+    ∙ parted args b (written.Comma ∷ pieces_of_argument a ++ rest)
 
 -- ---- names
 
@@ -110,6 +134,9 @@ module _ (names : List Entry) where
   misplaced-append (written.Open link ∷ a) b none = misplaced-append a b none
   misplaced-append (written.Close ∷ a) b none = misplaced-append a b none
   misplaced-append (written.Raised is_parenthesized sign n ∷ a) b none = misplaced-append a b none
+  misplaced-append (written.RaisedByName sign n ∷ a) b none = misplaced-append a b none
+  misplaced-append (written.Marked r ∷ a) b none = misplaced-append a b none
+  misplaced-append (written.Field n ∷ a) b none = misplaced-append a b none
 
   abbrev Seen : List Piece → Type 0
   Seen text = (rest : List Piece) (none : Refusal) → misplaced_to_end names (text ++ rest) none ≡ first_misplaced names text (misplaced_to_end names rest none)
@@ -128,6 +155,11 @@ module _ (names : List Entry) where
   unfolding first_misplaced misplaced_to_end
   seen-power p rest none = refl
 
+  seen-name-power : (sign : Option Sign) (n : Label) → Seen (written.RaisedByName sign (name_of n) ∷ mark_of n)
+  unfolding first_misplaced misplaced_to_end
+  seen-name-power sign (named n) rest none = refl
+  seen-name-power sign (wildcard n r) rest none = refl
+
   mutual
     unfolding first_misplaced misplaced_to_end
 
@@ -143,6 +175,7 @@ module _ (names : List Entry) where
     seen-factor : (link : Link) (f : Factor) → Seen (pieces_of_factor link f)
     seen-factor link (factor b None) rest none = seen-base link b rest none
     seen-factor link (factor b (Some p)) rest none = seen-append (pieces_of_base link b) (piece_of_power p ∷ []) (λ r n. seen-base link b r n) (seen-power p) rest none
+    seen-factor link (raised b sign m) rest none = seen-append (pieces_of_base link b) (written.RaisedByName sign (name_of m) ∷ mark_of m) (λ r n. seen-base link b r n) (seen-name-power sign m) rest none
 
     seen-base : (link : Link) (b : Base) → Seen (pieces_of_base link b)
     seen-base link (number n) rest none = refl

@@ -1,9 +1,9 @@
 -- A program that is checked is sound.
-use Rattle.std.proofs.Common.{◌≡◌, ℕ, Bool, List, [], ◌∷◌, ◌++◌, All, Option, Some, None, Result, Ok, refl, sym, ap, subst, ◌∙◌, append_assoc, if◌then◌else◌}
+use Rattle.std.proofs.Common.{◌≡◌, ℕ, Bool, List, [], ◌∷◌, ◌++◌, All, Some, Result, Ok, sym, subst, ◌∙◌, append_assoc, if◌then◌else◌}
 use Rattle.std.proofs.lemmas.List.{append-nil}
 use Rattle.std.proofs.lemmas.List.Elements.{All-nil, All-head, All-tail, All-push, All-weaker}
 use Rattle.form_names.specs.declared.kind.Kind.{Kind}
-use Rattle.form_names.specs.declared.kind.Kind.TheVariants.{Symbol, Vector, Function, CommutingFunction, Expression}
+use Rattle.form_names.specs.declared.kind.Kind.TheVariants.{Symbol, Vector, Function, CommutingFunction, Expression, Set}
 use Rattle.form_names.specs.declared.kind.Kind.TheVariants as kinds
 use Rattle.form_names.specs.declared.kind.Dimension.{Dimension}
 use Rattle.form_term.specs.declared.index.Index.{Index}
@@ -14,26 +14,40 @@ use Rattle.form_ast.specs.declared.expr.Expr.{Expr}
 use Rattle.form_ast.specs.declared.statement.Statement.{Statement}
 use Rattle.form_ast.specs.declared.statement.Statement.TheVariants as written
 use Rattle.form_ast.specs.declared.statement.Placed.{Placed}
-use Rattle.form_ast.specs.Lawful.{AreLawful, IsLawfulStatement, AreLawfulModules}
+use Rattle.form_ast.specs.declared.statement.Rewrite.{Rewrite as WrittenRewrite}
+use Rattle.form_ast.specs.Lawful.{AreLawful, ArePattern, AreRight, IsLawfulStatement, AreLawfulModules}
 use Rattle.form_tree.specs.declared.tree.Piece.{Piece}
 use Rattle.form_tree.specs.declared.tree.Piece.TheVariants as pieces
 use Rattle.form_tree.specs.declared.tree.Tree.{Tree}
+use Rattle.form_tree.specs.declared.tree.Base.{Base}
+use Rattle.form_tree.specs.declared.tree.Base.TheVariants as bases
+use Rattle.form_tree.specs.declared.pattern.Name.{Name}
+use Rattle.form_tree.specs.declared.pattern.Name.TheVariants.{Itself, Wild}
+use Rattle.form_tree.specs.declared.pattern.IndexName.{IndexName}
+use Rattle.form_tree.specs.declared.pattern.IndexName.TheVariants as index_names
+use Rattle.form_tree.specs.declared.pattern.Sort.{Sort}
+use Rattle.form_tree.specs.declared.pattern.Sort.TheVariants as sorts
+use Rattle.form_tree.specs.declared.pattern.PatternPiece.{PatternPiece}
+use Rattle.form_tree.specs.declared.pattern.PatternPiece.TheVariants as of_pattern
+use Rattle.form_tree.specs.Patterns.{Pieces}
 use Rattle.form_check.specs.declared.checked.Checked.{Checked}
-use Rattle.form_check.specs.declared.checked.Checked.TheVariants.{Drop, Skip, Local, Print}
+use Rattle.form_check.specs.declared.checked.Checked.TheVariants.{Drop, Skip, Local, Rewrite, Print}
+use Rattle.form_check.specs.declared.checked.Rewriting.{Rewriting}
 use Rattle.form_check.specs.declared.checked.Selection.{Selection}
 use Rattle.form_check.specs.declared.checked.Selection.TheVariants as selections
-use Rattle.form_check.specs.Checking.{State, start, ended, with_statement, declared, named, kind_declared, dimension, index, expression, expressions, expression_of, selection, definition, by_form, statement, class_of, is_defined_again, module_checked, program}
-use Rattle.form_check.specs.Refusal.{Refusal, ◌>>=◌, each, listed}
-use Rattle.form_check.specs.RightSide.{found, none_stands, sum, pieces_from, right_side}
+use Rattle.form_check.specs.Checking.{State, start, ended, with_statement, declared, named, kind_declared, dimension, index, expression, expressions, expression_of, selection, set, definition, rewriting, by_form, statement, class_of, is_defined_again, module_checked, program}
+use Rattle.form_check.specs.Refusal.{Refusal, ◌>>=◌, each}
+use Rattle.form_check.specs.RightSide.{Known, nothing_known, found, none_stands, sum, right_side}
 use Rattle.form_check.specs.Checker.{Keeps}
-use Rattle.form_ast.specs.declared.expr.Piece as written_piece
 use Rattle.form_ast.specs.Building.{tree_of}
 use Rattle.form_ast.specs.Syntax as syntax
 use Rattle.form_tree.specs.Tree.{pieces_of_sum}
 use Rattle.form_check.specs.Program.{Program}
-use Rattle.form_check.specs.Sound.{IsOfKind, IsIndexSound, IsPieceSound, IsRightSideSound, IsSelectionSound, IsStatementSound, AreModulesSound, IsSound}
+use Rattle.form_check.specs.Sound.{IsOfKind, IsIndexSound, IsBaseSound, IsPieceSound, IsNameSound, IsIndexNameSound, IsAnySound, IsPatternPieceSound, IsFixedSound, IsPatternSound, IsRewritingSound, IsRightSideSound, IsSelectionSound, IsStatementSound, AreModulesSound, IsSound}
 use Rattle.form_check.specs.Standing.{stands}
-use Rattle.form_check.proofs.Growing.{bind-Ok, else-Ok, ok_same, declared-Ok, named-keeps, index-keeps, all-keep}
+use Rattle.form_check.proofs.Growing.{bind-Ok, else-Ok, ok_same, declared-Ok, named-keeps, index-keeps, set-keeps, all-keep}
+use Rattle.form_check.specs.Pattern.{known_of, pattern_checked}
+use Rattle.form_check.proofs.PatternSound.{pattern-sound}
 use Rattle.form_check.proofs.Pieces.{found-sound, sum-sound}
 use Rattle.form_check.proofs.Lists.{listed-All}
 use Rattle.form_check.proofs.Whole.{whole-tree}
@@ -46,9 +60,20 @@ module _ (old new : List Entry) (grows : Keeps old new) where
   index-grows (indices.Declared id) h = (h.0, grows id (kinds.Index h.0) h.1)
   index-grows (indices.Dummy n) h = h
 
+  base-grows : (b : Base) → IsBaseSound old b → IsBaseSound new b
+  base-grows (bases.Number value) h = h
+  base-grows (bases.Symbol id) h = grows id Symbol h
+  base-grows (bases.Wild id) h = grows id Symbol h
+  base-grows (bases.Dot left right) h = (grows left Vector h.0, grows right Vector h.1)
+  base-grows bases.Imaginary h = h
+  base-grows (bases.Component c) h = (grows c.vector Vector h.0, index-grows c.index h.1)
+  base-grows (bases.Delta i j) h = (index-grows i h.0, index-grows j h.1)
+
   piece-grows : (standing : ℕ → Bool) (p : Piece) → IsPieceSound old standing p → IsPieceSound new standing p
   piece-grows standing (pieces.Number link value power) h = h
   piece-grows standing (pieces.Symbol link id power) h = (grows id Symbol h.0, h.1)
+  piece-grows standing (pieces.Wild link id is_over power) h = (grows id Symbol h.0, h.1)
+  piece-grows standing (pieces.Raised link base by) h = (base-grows base h.0, grows by.symbol Symbol h.1)
   piece-grows standing (pieces.Stored link id power) h = (grows id Expression h.0, h.1, h.2)
   piece-grows standing (pieces.Imaginary link power) h = h
   piece-grows standing (pieces.Dot link left right power) h = (grows left Vector h.0, grows right Vector h.1, h.2)
@@ -56,12 +81,15 @@ module _ (old new : List Entry) (grows : Keeps old new) where
   piece-grows standing (pieces.Delta link i j power) h = (index-grows i h.0, index-grows j h.1, h.2)
   piece-grows standing (pieces.Function link id is_commuting) h = grows id (if is_commuting then CommutingFunction else Function) h
   piece-grows standing (pieces.EndOfFunction power) h = h
+  piece-grows standing (pieces.EndOfRaisedFunction by) h = grows by.symbol Symbol h
+  piece-grows standing (pieces.Field w) h = h
   piece-grows standing (pieces.Index i) h = index-grows i h
   piece-grows standing (pieces.Vector id) h = grows id Vector h
   piece-grows standing pieces.Argument h = h
   piece-grows standing pieces.EndOfArgument h = h
   piece-grows standing (pieces.Open link) h = h
   piece-grows standing (pieces.Close power) h = h
+  piece-grows standing (pieces.CloseRaised by) h = grows by.symbol Symbol h
 
   selection-grows : (which : Selection) → IsSelectionSound old which → IsSelectionSound new which
   selection-grows selections.All h = h
@@ -75,10 +103,62 @@ module _ (old new : List Entry) (grows : Keeps old new) where
     each = All-weaker (IsPieceSound old standing) (IsPieceSound new standing) (piece-grows standing) list h.each;
   }
 
+  name-grows : (kind : Kind) (n : Name) → IsNameSound kind old n → IsNameSound kind new n
+  name-grows kind (Itself id) h = grows id kind h
+  name-grows kind (Wild id sets) h = grows id kind h
+
+  index-name-grows : (i : IndexName) → IsIndexNameSound old i → IsIndexNameSound new i
+  index-name-grows (index_names.Fixed n) h = h
+  index-name-grows (index_names.Name n) h = (h.0, name-grows (kinds.Index h.0) n h.1)
+
+  any-grows : (sort : Sort) (n : Name) → IsAnySound old sort n → IsAnySound new sort n
+  any-grows sorts.Expression n h = name-grows Symbol n h
+  any-grows sorts.Index n h = (h.0, name-grows (kinds.Index h.0) n h.1)
+  any-grows sorts.Vector n h = name-grows Vector n h
+
+  pattern-piece-grows : (p : PatternPiece) → IsPatternPieceSound old p → IsPatternPieceSound new p
+  pattern-piece-grows (of_pattern.Symbol n k) h = name-grows Symbol n h
+  pattern-piece-grows (of_pattern.Whole n m) h = (name-grows Symbol n h.0, name-grows Symbol m h.1)
+  pattern-piece-grows (of_pattern.Dot p q k) h = (name-grows Vector p h.0, name-grows Vector q h.1)
+  pattern-piece-grows (of_pattern.Component v i) h = (name-grows Vector v h.0, index-name-grows i h.1)
+  pattern-piece-grows (of_pattern.Delta i j) h = (index-name-grows i h.0, index-name-grows j h.1)
+  pattern-piece-grows (of_pattern.Function n) h = name-grows CommutingFunction n h
+  pattern-piece-grows (of_pattern.Word count) h = h
+  pattern-piece-grows (of_pattern.Call n) h = name-grows Function n h
+  pattern-piece-grows of_pattern.EndOfArguments h = h
+  pattern-piece-grows of_pattern.EndOfWord h = h
+  pattern-piece-grows (of_pattern.Fixed k) h = h
+  pattern-piece-grows (of_pattern.Any sort n) h = any-grows sort n h
+  pattern-piece-grows (of_pattern.Field w) h = h
+  pattern-piece-grows of_pattern.Product h = h
+  pattern-piece-grows of_pattern.EndOfProduct h = h
+
+  fixed-grows : (list : List Piece) → IsFixedSound old list → IsFixedSound new list
+  fixed-grows list h = record {
+    tree = h.tree;
+    pieces = h.pieces;
+    each = All-weaker (IsPieceSound old none_stands) (IsPieceSound new none_stands) (piece-grows none_stands) list h.each;
+  }
+
+  pattern-grows : (p : Pieces) → IsPatternSound old p → IsPatternSound new p
+  pattern-grows p h = record {
+    tree = h.tree;
+    pieces = h.pieces;
+    each = All-weaker (IsPatternPieceSound old) (IsPatternPieceSound new) pattern-piece-grows p.pieces h.each;
+    fixed = All-weaker (IsFixedSound old) (IsFixedSound new) fixed-grows p.fixed h.fixed;
+  }
+
+  rewriting-grows : (r : Rewriting) → IsRewritingSound old r → IsRewritingSound new r
+  rewriting-grows r h = record {
+    pattern = pattern-grows r.pattern h.pattern;
+    right = right_side-grows none_stands r.right h.right;
+  }
+
   statement-grows : (standing : ℕ → Bool) (s : Checked) → IsStatementSound old standing s → IsStatementSound new standing s
   statement-grows standing (Drop which) h = selection-grows which h
   statement-grows standing (Skip which) h = selection-grows which h
   statement-grows standing (Local id right) h = (grows id Expression h.0, right_side-grows standing right h.1)
+  statement-grows standing (Rewrite is_also r) h = rewriting-grows r h
   statement-grows standing (Print which) h = selection-grows which h
 
   modules-grow : (earlier later : List (List Checked)) → AreModulesSound old earlier later → AreModulesSound new earlier later
@@ -101,6 +181,7 @@ kind-Ok names spelled place id Vector at is = cc
 kind-Ok names spelled place id (kinds.Index d) at is = cc
 kind-Ok names spelled place id Function at is = cc
 kind-Ok names spelled place id CommutingFunction at is = cc
+kind-Ok names spelled place id Set at is = cc
 kind-Ok names spelled place id Expression at is =
     subst (λ (i : ℕ). kind_at names i ≡ Some Expression) (ok_same is) at
 
@@ -141,23 +222,35 @@ selected s t list made holds is h =
 
 -- where each tree is found again from its pieces
 module _ (law : (tree : syntax.Sum) → tree_of (syntax.pieces_of_sum tree) ≡ Some tree) where
-  right_side-Ok : (names : List Entry) (standing : ℕ → Bool) (right : Expr) (list : Tree) → AreLawful right → right_side names standing right ≡ Ok list → IsRightSideSound names standing list
-  right_side-Ok names standing right list lawful is =
-      let found = bind-Ok (sum names standing lawful.tree) (λ t. Ok (pieces_of_sum t)) list (sym (whole-tree names standing law right lawful) ∙ is) in
+  right_side-Ok : (names : List Entry) (standing : ℕ → Bool) (known : Known) (right : Expr) (tree : syntax.Sum) (list : Tree) → right ≡ syntax.pieces_of_sum tree → right_side names standing known right ≡ Ok list → IsRightSideSound names standing list
+  right_side-Ok names standing known right tree list same is =
+      let found = bind-Ok (sum names standing known tree) (λ t. Ok (pieces_of_sum t)) list (sym (whole-tree names standing known law right tree same) ∙ is) in
       record {
         tree = found.0;
         pieces = sym (ok_same found.2);
-        each = subst (All (IsPieceSound names standing)) (ok_same found.2) (sum-sound names standing lawful.tree found.0 found.1);
+        each = subst (All (IsPieceSound names standing)) (ok_same found.2) (sum-sound names standing known tree found.0 found.1);
       }
 
   defined : (s t : State) (spelled : Spelled) (right : Expr) → AreLawful right → definition s spelled right ≡ Ok t → IsStateSound s → IsStateSound t
   defined s t spelled right lawful is h =
-      let new = else-Ok (is_defined_again s (lookup s.names spelled.name)) (declared s.names spelled Expression >>= (λ d. right_side d.1 (stands s.earlier) right >>= (λ list. Ok (with_statement (record s { names = d.1 }) (Local d.0 list))))) _ _ t is in
-      let made = bind-Ok (declared s.names spelled Expression) (λ d. right_side d.1 (stands s.earlier) right >>= (λ list. Ok (with_statement (record s { names = d.1 }) (Local d.0 list)))) t new.1 in
+      let new = else-Ok (is_defined_again s (lookup s.names spelled.name)) (declared s.names spelled Expression >>= (λ d. right_side d.1 (stands s.earlier) nothing_known right >>= (λ list. Ok (with_statement (record s { names = d.1 }) (Local d.0 list))))) _ _ t is in
+      let made = bind-Ok (declared s.names spelled Expression) (λ d. right_side d.1 (stands s.earlier) nothing_known right >>= (λ list. Ok (with_statement (record s { names = d.1 }) (Local d.0 list)))) t new.1 in
       let names : List Entry = made.0.1 in
-      let list = bind-Ok (right_side names (stands s.earlier) right) (λ list. Ok (with_statement (record s { names = names }) (Local made.0.0 list))) t made.2 in
+      let list = bind-Ok (right_side names (stands s.earlier) nothing_known right) (λ list. Ok (with_statement (record s { names = names }) (Local made.0.0 list))) t made.2 in
       let declares = declared-Ok s.names spelled Expression made.0 made.1 in
-      subst IsStateSound (ok_same list.2) (pushed (record s { names = names }) (Local made.0.0 list.0) (declares.stands, right_side-Ok names (stands s.earlier) right list.0 lawful list.1) (names-grow s names declares.grows h))
+      subst IsStateSound (ok_same list.2) (pushed (record s { names = names }) (Local made.0.0 list.0) (declares.stands, right_side-Ok names (stands s.earlier) nothing_known right lawful.tree list.0 lawful.pieces list.1) (names-grow s names declares.grows h))
+
+  -- an `id` or an `also`
+  put-in : (s t : State) (r : WrittenRewrite) → ArePattern r.pattern → AreRight r.pattern r.right → rewriting s r ≡ Ok t → IsStateSound s → IsStateSound t
+  put-in s t r of_pattern of_right is h =
+      let known = known_of s.names r.pattern in
+      let made = bind-Ok (pattern_checked s.names r.pattern) (λ made. right_side s.names none_stands known r.right >>= (λ right. Ok (with_statement s (Rewrite r.is_also (record { option = r.option; pattern = made; right = right }))))) t is in
+      let right = bind-Ok (right_side s.names none_stands known r.right) (λ right. Ok (with_statement s (Rewrite r.is_also (record { option = r.option; pattern = made.0; right = right })))) t made.2 in
+      let sound : IsRewritingSound s.names (record { option = r.option; pattern = made.0; right = right.0 }) = record {
+        pattern = pattern-sound s.names law r.pattern of_pattern.tree made.0 of_pattern.pieces made.1;
+        right = right_side-Ok s.names none_stands known r.right of_right.tree right.0 of_right.pieces right.1;
+      } in
+      subst IsStateSound (ok_same right.2) (pushed s (Rewrite r.is_also (record { option = r.option; pattern = made.0; right = right.0 })) sound h)
 
   formed : (s t : State) (form : Statement) → IsLawfulStatement form → by_form s form ≡ Ok t → IsStateSound s → IsStateSound t
   formed s t (written.Names declared list) lawful is h =
@@ -169,10 +262,14 @@ module _ (law : (tree : syntax.Sum) → tree_of (syntax.pieces_of_sum tree) ≡ 
   formed s t (written.Dimension d) lawful is h =
       let found = bind-Ok (dimension s.names d) (λ holds. Ok (record s { dimension = holds })) t is in
       subst IsStateSound (ok_same found.2) (record { earlier = h.earlier; statements = h.statements })
+  formed s t (written.Set name es) lawful is h =
+      let found = bind-Ok (set s.names name es) (λ names. Ok (record s { names = names })) t is in
+      subst IsStateSound (ok_same found.2) (names-grow s found.0 (set-keeps s.names found.0 name es found.1) h)
   formed s t written.Statistics lawful is h = subst IsStateSound (ok_same is) h
   formed s t (written.Drop list) lawful is h = selected s t list Drop (λ which k. k) is h
   formed s t (written.Skip list) lawful is h = selected s t list Skip (λ which k. k) is h
   formed s t (written.Local spelled right) lawful is h = defined s t spelled right lawful is h
+  formed s t (written.Rewrite r) lawful is h = put-in s t r lawful.0 lawful.1 is h
   formed s t (written.Print list) lawful is h = selected s t list Print (λ which k. k) is h
 
   stated : (s t : State) (placed : Placed) → IsLawfulStatement placed.statement → statement s placed ≡ Ok t → IsStateSound s → IsStateSound t

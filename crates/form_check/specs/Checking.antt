@@ -1,11 +1,12 @@
 -- The program that a text is, over Ids, or the first refusal in the order of the text.
 use Rattle.std.specs.Prelude.{ℕ, Bool, false, nat_lt, nat_le, if◌then◌else◌, List, [], ◌∷◌, ◌++◌, length, Option, Some, None, Result, Ok, Err}
 use Rattle.form_base.specs.declared.cause.Cause.TheVariants.{StatementOrder, Undeclared, Redeclared, WrongKind, NumberRange}
+use Rattle.form_names.specs.declared.elements.Elements.{Elements}
 use Rattle.form_names.specs.declared.kind.Kind.{Kind}
 use Rattle.form_names.specs.declared.kind.Kind.TheVariants.{Symbol, Vector, Index, Function, CommutingFunction, Expression}
 use Rattle.form_names.specs.declared.kind.Dimension.{Dimension}
 use Rattle.form_names.specs.declared.kind.Dimension.TheVariants as dimensions
-use Rattle.form_names.specs.Names.{Entry, lookup, kind_at, declare, largest_dimension}
+use Rattle.form_names.specs.Names.{Entry, lookup, kind_at, declare, declare_set, largest_dimension}
 use Rattle.form_ast.specs.declared.expr.Spelled.{Spelled}
 use Rattle.form_ast.specs.declared.expr.Expr.{Expr}
 use Rattle.form_ast.specs.declared.index_list.Dimension as written_dimension
@@ -16,13 +17,17 @@ use Rattle.form_ast.specs.declared.statement.Declared.TheVariants.{Symbols, Vect
 use Rattle.form_ast.specs.declared.statement.Statement.{Statement}
 use Rattle.form_ast.specs.declared.statement.Statement.TheVariants as written
 use Rattle.form_ast.specs.declared.statement.Placed.{Placed}
+use Rattle.form_ast.specs.declared.statement.Rewrite as written_rewrite
+use Rattle.form_ast.specs.declared.statement.WrittenElements.{WrittenElements}
 use Rattle.form_check.specs.declared.checked.Checked.{Checked}
-use Rattle.form_check.specs.declared.checked.Checked.TheVariants.{Drop, Skip, Local, Print}
+use Rattle.form_check.specs.declared.checked.Checked.TheVariants.{Drop, Skip, Local, Rewrite, Print}
 use Rattle.form_check.specs.declared.checked.Selection.{Selection}
 use Rattle.form_check.specs.declared.checked.Selection.TheVariants as selections
 use Rattle.form_check.specs.Program.{Program}
 use Rattle.form_check.specs.Refusal.{Refusal, refused, ◌>>=◌, each, listed}
-use Rattle.form_check.specs.RightSide.{found, wrong_kind, right_side}
+use Rattle.form_check.specs.RightSide.{found, wrong_kind, right_side, nothing_known, none_stands}
+use Rattle.form_check.specs.Pattern.{pattern_checked, known_of}
+use Rattle.form_check.specs.Sets.{elements}
 use Rattle.form_check.specs.Standing.{defines, stands}
 
 -- how many names may be declared
@@ -82,6 +87,22 @@ abbrev pub index : Dimension → List Entry → SpelledIndex → Result (List En
 index default names i =
     if is_past_limit names (lookup names i.name.name) then refused NumberRange i.name.spot else index_with names i.name (lookup names i.name.name) (dimension_or default names i.dimension)
 
+-- the names with a set of these elements
+abbrev pub set_once : Option (ℕ × List Entry) → Spelled → Result (List Entry) Refusal
+set_once None s = refused (Redeclared s.name) s.spot
+set_once (Some declaration) s = Ok declaration.1
+
+abbrev pub set_with : List Entry → Spelled → Option ℕ → Result Elements Refusal → Result (List Entry) Refusal
+set_with names s place (Ok es) = set_once (declare_set names s.name es) s
+set_with names s (Some id) (Err refusal) = refused (Redeclared s.name) s.spot
+set_with names s None (Err refusal) = Err refusal
+
+-- The names with one more set. Its name stands before its elements: so a name that stands otherwise is refused first, and
+-- so is one past the limit.
+abbrev pub set : List Entry → Spelled → WrittenElements → Result (List Entry) Refusal
+set names s es =
+    if is_past_limit names (lookup names s.name) then refused NumberRange s.spot else set_with names s (lookup names s.name) (elements names es)
+
 abbrev pub expression_of : Spelled → ℕ → Kind → Result ℕ Refusal
 expression_of s id Expression = Ok id
 expression_of s id _ = wrong_kind s
@@ -111,15 +132,17 @@ pub record State : Type 0 where
   pub statements : List Checked
   pub class : ℕ
 
--- declarations, what is dropped or skipped, definitions, output: in this order they stand in a module
+-- declarations, what is dropped or skipped, definitions, what is carried out, output: in this order they stand in a module
 abbrev pub class_of : Statement → ℕ
 class_of (written.Names declared names) = 1
 class_of (written.Indices indices) = 1
 class_of (written.Dimension d) = 1
+class_of (written.Set s es) = 1
 class_of written.Statistics = 1
 class_of (written.Drop names) = 2
 class_of (written.Skip names) = 2
 class_of (written.Local name right) = 3
+class_of (written.Rewrite r) = 4
 class_of (written.Print names) = 5
 
 -- the state with one more statement
@@ -137,8 +160,15 @@ abbrev pub definition : State → Spelled → Expr → Result State Refusal
 definition state spelled right =
     if is_defined_again state (lookup state.names spelled.name) then refused (Redeclared spelled.name) spelled.spot else (do
       declaration ← declared state.names spelled Expression
-      pieces ← right_side declaration.1 (stands state.earlier) right
+      pieces ← right_side declaration.1 (stands state.earlier) nothing_known right
       Ok (with_statement (record state { names = declaration.1 }) (Local declaration.0 pieces)))
+
+-- An `id` or an `also`: its pattern, and then its right side, in which no expression is named.
+abbrev pub rewriting : State → written_rewrite.Rewrite → Result State Refusal
+rewriting state r = do
+  made ← pattern_checked state.names r.pattern
+  right ← right_side state.names none_stands (known_of state.names r.pattern) r.right
+  Ok (with_statement state (Rewrite r.is_also (record { option = r.option; pattern = made; right = right })))
 
 abbrev pub by_form : State → Statement → Result State Refusal
 by_form state (written.Names declared list) = do
@@ -150,6 +180,9 @@ by_form state (written.Indices list) = do
 by_form state (written.Dimension d) = do
   holds ← dimension state.names d
   Ok (record state { dimension = holds })
+by_form state (written.Set s es) = do
+  names ← set state.names s es
+  Ok (record state { names = names })
 by_form state written.Statistics = Ok state
 by_form state (written.Drop list) = do
   which ← selection state.names list
@@ -158,6 +191,7 @@ by_form state (written.Skip list) = do
   which ← selection state.names list
   Ok (with_statement state (Skip which))
 by_form state (written.Local spelled right) = definition state spelled right
+by_form state (written.Rewrite r) = rewriting state r
 by_form state (written.Print list) = do
   which ← selection state.names list
   Ok (with_statement state (Print which))

@@ -1,10 +1,12 @@
 -- A right side over Ids: the tree as it is written, its names, powers and numbers looked at from the left, or the first
 -- refusal.
-use Rattle.std.specs.Prelude.{ℕ, ℤ, pos, neg_ℤ, Bool, true, false, ◌==◌, ◌&&◌, ◌||◌, not, nat_le, if◌then◌else◌, List, [], ◌∷◌, codes, Option, Some, None, Result, Ok, Err}
+use Rattle.std.specs.Prelude.{ℕ, ℤ, pos, neg_ℤ, Bool, true, false, ◌==◌, ◌&&◌, ◌||◌, not, nat_le, if◌then◌else◌, List, [], ◌∷◌, codes, length, position, unwrap_or, Option, Some, None, Result, Ok, Err}
+use Rattle.std.specs.List.{list_any}
+use Rattle.std.specs.Str.{bytes_eq}
 use Rattle.form_base.specs.declared.cause.Cause.TheVariants.{Undeclared, WrongKind, NumberRange}
 use Rattle.form_base.specs.declared.spot.Spot.{Spot}
 use Rattle.form_names.specs.declared.kind.Kind as kinds
-use Rattle.form_names.specs.declared.kind.Kind.TheVariants.{Symbol, Vector, Index, Function, CommutingFunction, Expression}
+use Rattle.form_names.specs.declared.kind.Kind.TheVariants.{Symbol, Vector, Index, Function, CommutingFunction, Expression, Set}
 use Rattle.form_names.specs.Names.{Entry, lookup, kind_at}
 use Rattle.form_term.specs.declared.index.Index as indices
 use Rattle.form_term.specs.declared.index.Index.TheVariants as by_index
@@ -15,8 +17,6 @@ use Rattle.form_ast.specs.declared.expr.Power.{Power}
 use Rattle.form_ast.specs.declared.expr.Spelled.{Spelled}
 use Rattle.form_ast.specs.declared.expr.Named.{Named}
 use Rattle.form_ast.specs.declared.expr.Named.TheVariants.{Declared, Imaginary}
-use Rattle.form_ast.specs.declared.expr.Entry as entries
-use Rattle.form_ast.specs.declared.expr.Entry.TheVariants as by_entry
 use Rattle.form_ast.specs.declared.expr.Piece.{Piece}
 use Rattle.form_ast.specs.declared.expr.Piece.TheVariants as written
 use Rattle.form_ast.specs.Building.{tree_of}
@@ -120,21 +120,43 @@ found names s = found_at names s (lookup names s.name)
 abbrev pub size_alone : Bool → Option Power → Spelled → Result ℕ Refusal
 size_alone is_over power s = if is_inverted is_over power then wrong_kind s else size_within largest_power power
 
-abbrev pub symbol : Bool → ℕ → Option Power → Result tree.Factor Refusal
-symbol is_over id power = size_within largest_exponent power >>= (λ size. Ok (tree.symbol id (exponent is_over power size)))
+-- What a right side knows of its pattern: the Ids of the names that are wildcards there, and the names of its fields, in the
+-- order in which each stands there first. The right side of a definition has no pattern.
+pub record Known : Type 0 where
+  pub wildcards : List ℕ
+  pub fields : List (List ℕ)
+
+abbrev pub nothing_known : Known
+nothing_known = record { wildcards = []; fields = [] }
+
+abbrev pub is_wildcard : Known → ℕ → Bool
+is_wildcard known id = list_any (λ w. w == id) known.wildcards
+
+-- the number of a field
+abbrev pub field_number : List (List ℕ) → List ℕ → ℕ
+field_number fields name = unwrap_or (position (λ f. bytes_eq name f) fields) (length fields)
+
+-- a symbol; one that is a wildcard keeps its power as it is written, and whether it stands after `/`
+abbrev pub symbol_factor : Bool → Bool → ℕ → Option Power → ℕ → tree.Factor
+symbol_factor is_wild is_over id power size =
+    if is_wild then tree.wild id is_over (exponent false power size) else tree.symbol id (exponent is_over power size)
+
+abbrev pub symbol : Known → Bool → ℕ → Option Power → Result tree.Factor Refusal
+symbol known is_over id power = size_within largest_exponent power >>= (λ size. Ok (symbol_factor (is_wildcard known id) is_over id power size))
 
 -- a declared name alone: a symbol, a function without arguments, or an expression that stands
-abbrev pub by_kind : (ℕ → Bool) → Bool → Spelled → Option Power → ℕ → kinds.Kind → Result tree.Factor Refusal
-by_kind stands is_over s power id Symbol = symbol is_over id power
-by_kind stands is_over s power id Vector = wrong_kind s
-by_kind stands is_over s power id (Index d) = wrong_kind s
-by_kind stands is_over s power id Function = size_alone is_over power s >>= (λ size. Ok (tree.function id false tree.empty size))
-by_kind stands is_over s power id CommutingFunction = size_alone is_over power s >>= (λ size. Ok (tree.function id true tree.empty size))
-by_kind stands is_over s power id Expression = if stands id then (size_alone is_over power s >>= (λ size. Ok (tree.stored id size))) else wrong_kind s
+abbrev pub by_kind : (ℕ → Bool) → Known → Bool → Spelled → Option Power → ℕ → kinds.Kind → Result tree.Factor Refusal
+by_kind stands known is_over s power id Symbol = symbol known is_over id power
+by_kind stands known is_over s power id Vector = wrong_kind s
+by_kind stands known is_over s power id (Index d) = wrong_kind s
+by_kind stands known is_over s power id Function = size_alone is_over power s >>= (λ size. Ok (tree.function id false tree.empty size))
+by_kind stands known is_over s power id CommutingFunction = size_alone is_over power s >>= (λ size. Ok (tree.function id true tree.empty size))
+by_kind stands known is_over s power id Expression = if stands id then (size_alone is_over power s >>= (λ size. Ok (tree.stored id size))) else wrong_kind s
+by_kind stands known is_over s power id Set = wrong_kind s
 
-abbrev pub name : List Entry → (ℕ → Bool) → Bool → Named → Option Power → Result tree.Factor Refusal
-name names stands is_over (Imaginary spot) power = size_alone is_over power (spelled_of (Imaginary spot)) >>= (λ size. Ok (tree.imaginary size))
-name names stands is_over (Declared s) power = found names s >>= (λ f. by_kind stands is_over s power f.id f.kind)
+abbrev pub name : List Entry → (ℕ → Bool) → Known → Bool → Named → Option Power → Result tree.Factor Refusal
+name names stands known is_over (Imaginary spot) power = size_alone is_over power (spelled_of (Imaginary spot)) >>= (λ size. Ok (tree.imaginary size))
+name names stands known is_over (Declared s) power = found names s >>= (λ f. by_kind stands known is_over s power f.id f.kind)
 
 -- ---- vectors and indices
 
@@ -164,9 +186,9 @@ abbrev pub fixed_end : Number → Result ends.End Refusal
 fixed_end n = if nat_le n.value largest_index then Ok (an_end.Fixed n.value) else refused NumberRange n.spot
 
 -- what stands in `d_` or in the parentheses of a vector: an index, a fixed index or a vector
-abbrev pub end : List Entry → entries.Entry → Result ends.End Refusal
-end names (by_entry.Number n) = fixed_end n
-end names (by_entry.Name n) = named_end names n
+abbrev pub end : List Entry → syntax.Entry → Result ends.End Refusal
+end names (syntax.number_entry n) = fixed_end n
+end names (syntax.name_entry n) = named_end names (syntax.name_of n)
 
 -- an index and an end: a component or a delta
 abbrev pub linked_index : indices.Index → ends.End → ℕ → tree.Factor
@@ -185,7 +207,7 @@ linked (an_end.Index i) e size = linked_index (by_index.Declared i) e size
 abbrev pub linked_to : ends.End → ends.End → Option Power → Result tree.Factor Refusal
 linked_to a b power = size_within largest_power power >>= (λ size. Ok (linked a b size))
 
-abbrev pub delta : List Entry → entries.Entry → entries.Entry → Option Power → Result tree.Factor Refusal
+abbrev pub delta : List Entry → syntax.Entry → syntax.Entry → Option Power → Result tree.Factor Refusal
 delta names a b power = end names a >>= (λ first. end names b >>= (λ second. linked_to first second power))
 
 -- ---- names with arguments
@@ -202,9 +224,9 @@ head names (Imaginary spot) = wrong_kind (spelled_of (Imaginary spot))
 head names (Declared s) = found names s >>= (λ f. head_of s f.id f.kind)
 
 -- an argument that is one name or one number
-abbrev pub alone : syntax.Sum → Option entries.Entry
-alone (syntax.first None (syntax.one (syntax.factor (syntax.number n) None))) = Some (by_entry.Number n)
-alone (syntax.first None (syntax.one (syntax.factor (syntax.name n) None))) = Some (by_entry.Name n)
+abbrev pub alone : syntax.Sum → Option syntax.Entry
+alone (syntax.first None (syntax.one (syntax.factor (syntax.number n) None))) = Some (syntax.number_entry n)
+alone (syntax.first None (syntax.one (syntax.factor (syntax.name n) None))) = Some (syntax.name_entry n)
 alone _ = None
 
 -- a name where none of its kind can stand
@@ -229,15 +251,16 @@ first_misplaced names (written.Call link n ∷ rest) none = misplaced names n
 first_misplaced names (written.Delta link spot ∷ rest) none = wrong (delta_at spot)
 first_misplaced names (_ ∷ rest) none = first_misplaced names rest none
 
-abbrev pub only_end : List Entry → Named → syntax.Sum → Option entries.Entry → Result ends.End Refusal
+abbrev pub only_end : List Entry → Named → syntax.Sum → Option syntax.Entry → Result ends.End Refusal
 only_end names n s (Some e) = end names e
 only_end names n s None = Err (first_misplaced names (syntax.pieces_of_sum s) (wrong (spelled_of n)))
 
 -- What stands in the parentheses of a vector. Another number of arguments than one is refused at the vector; an argument
 -- that isn't one name or one number at the first name in it, or at the vector where it has none.
 abbrev pub component_end : List Entry → Named → syntax.Arguments → Result ends.End Refusal
-component_end names n (syntax.argument s) = only_end names n s (alone s)
-component_end names n (syntax.further args s) = wrong_kind (spelled_of n)
+component_end names n (syntax.argument (syntax.expression s)) = only_end names n s (alone s)
+component_end names n (syntax.argument (syntax.field f)) = wrong_kind (spelled_of n)
+component_end names n (syntax.further args a) = wrong_kind (spelled_of n)
 
 abbrev pub call_by : List Entry → Named → syntax.Arguments → Result tree.Arguments Refusal → Option Power → heads.Head → Result tree.Factor Refusal
 call_by names n args given power (a_head.Function id is_commuting) =
@@ -270,54 +293,135 @@ abbrev pub lone_named : List Entry → Named → Option tree.Argument
 lone_named names (Imaginary spot) = None
 lone_named names (Declared s) = lone_at names (lookup names s.name)
 
-abbrev pub lone : List Entry → Option entries.Entry → Option tree.Argument
+abbrev pub lone : List Entry → Option syntax.Entry → Option tree.Argument
 lone names None = None
-lone names (Some (by_entry.Number n)) = None
-lone names (Some (by_entry.Name n)) = lone_named names n
+lone names (Some (syntax.number_entry n)) = None
+lone names (Some (syntax.name_entry n)) = lone_named names (syntax.name_of n)
 
 -- an argument of a function: an index alone, a vector alone, or else an expression
 abbrev pub argument : Option tree.Argument → Result tree.Sum Refusal → Result tree.Argument Refusal
 argument (Some a) expression = Ok a
 argument None expression = expression >>= (λ s. Ok (tree.expression s))
 
--- ---- trees
-
 -- no expression's name stands in an argument
 abbrev pub none_stands : ℕ → Bool
 none_stands id = false
 
--- where these names are declared, and these expressions may be named
-abbrev mutual
-  pub sum : List Entry → (ℕ → Bool) → syntax.Sum → Result tree.Sum Refusal
-  sum names stands (syntax.first sign p) = product names stands p >>= (λ q. Ok (tree.first (is_minus sign) q))
-  sum names stands (syntax.more s sign p) = sum names stands s >>= (λ t. product names stands p >>= (λ q. Ok (tree.more t (is_minus (Some sign)) q)))
+-- ---- powers that are names
 
-  pub product : List Entry → (ℕ → Bool) → syntax.Product → Result tree.Product Refusal
-  product names stands (syntax.one f) = factor names stands false f >>= (λ g. Ok (tree.one g))
-  product names stands (syntax.times p f) = product names stands p >>= (λ q. factor names stands false f >>= (λ g. Ok (tree.times q g)))
-  product names stands (syntax.over p f) = product names stands p >>= (λ q. factor names stands true f >>= (λ g. Ok (tree.times q g)))
+-- the name of such a power: a symbol
+abbrev pub symbol_of : Spelled → ℕ → kinds.Kind → Result ℕ Refusal
+symbol_of s id Symbol = Ok id
+symbol_of s id _ = wrong_kind s
+
+abbrev pub symbol_named : List Entry → Named → Result ℕ Refusal
+symbol_named names (Imaginary spot) = wrong_kind (spelled_of (Imaginary spot))
+symbol_named names (Declared s) = found names s >>= (λ f. symbol_of s f.id f.kind)
+
+abbrev pub number_base : Number → Result tree.Base Refusal
+number_base n = if nat_le n.value largest_number then Ok (tree.number_base n.value) else refused NumberRange n.spot
+
+abbrev pub symbol_base : Bool → ℕ → tree.Base
+symbol_base is_wild id = if is_wild then tree.wild_base id else tree.symbol_base id
+
+-- what has no inverse stands after `/` under no power
+abbrev pub base_alone : Bool → Spelled → tree.Base → Result tree.Base Refusal
+base_alone is_over s b = if is_over then wrong_kind s else Ok b
+
+abbrev pub base_by_kind : Known → Bool → Spelled → ℕ → kinds.Kind → Result tree.Base Refusal
+base_by_kind known is_over s id Symbol = Ok (symbol_base (is_wildcard known id) id)
+base_by_kind known is_over s id Function = base_alone is_over s (tree.function_base id false tree.empty)
+base_by_kind known is_over s id CommutingFunction = base_alone is_over s (tree.function_base id true tree.empty)
+base_by_kind known is_over s id _ = wrong_kind s
+
+abbrev pub name_base : List Entry → Known → Bool → Named → Result tree.Base Refusal
+name_base names known is_over (Imaginary spot) = base_alone is_over (spelled_of (Imaginary spot)) tree.imaginary_base
+name_base names known is_over (Declared s) = found names s >>= (λ f. base_by_kind known is_over s f.id f.kind)
+
+abbrev pub dot_base : List Entry → Named → Named → Result tree.Base Refusal
+dot_base names p q = vector names p >>= (λ left. vector names q >>= (λ right. Ok (tree.dot_base left right)))
+
+-- an index and an end, and two ends, as below such a power
+abbrev pub linked_index_base : indices.Index → ends.End → tree.Base
+linked_index_base i (an_end.Vector p) = tree.component_base (record { vector = p; index = i })
+linked_index_base i (an_end.Fixed n) = tree.delta_base i (by_index.Fixed n)
+linked_index_base i (an_end.Index j) = tree.delta_base i (by_index.Declared j)
+
+abbrev pub linked_base : ends.End → ends.End → tree.Base
+linked_base (an_end.Vector p) (an_end.Vector q) = tree.dot_base p q
+linked_base (an_end.Vector p) (an_end.Fixed n) = tree.component_base (record { vector = p; index = by_index.Fixed n })
+linked_base (an_end.Vector p) (an_end.Index i) = tree.component_base (record { vector = p; index = by_index.Declared i })
+linked_base (an_end.Fixed n) e = linked_index_base (by_index.Fixed n) e
+linked_base (an_end.Index i) e = linked_index_base (by_index.Declared i) e
+
+abbrev pub delta_base : List Entry → syntax.Entry → syntax.Entry → Result tree.Base Refusal
+delta_base names a b = end names a >>= (λ first. end names b >>= (λ second. Ok (linked_base first second)))
+
+abbrev pub empty_call_base : Named → heads.Head → Result tree.Base Refusal
+empty_call_base n (a_head.Function id is_commuting) = Ok (tree.function_base id is_commuting tree.empty)
+empty_call_base n (a_head.Vector id) = wrong_kind (spelled_of n)
+
+abbrev pub call_base : List Entry → Named → syntax.Arguments → Result tree.Arguments Refusal → heads.Head → Result tree.Base Refusal
+call_base names n args given (a_head.Function id is_commuting) = given >>= (λ all. Ok (tree.function_base id is_commuting all))
+call_base names n args given (a_head.Vector id) = component_end names n args >>= (λ e. Ok (linked_base (an_end.Vector id) e))
+
+-- ---- trees
+
+-- where these names are declared, these expressions may be named, and this is known of a pattern
+abbrev mutual
+  pub sum : List Entry → (ℕ → Bool) → Known → syntax.Sum → Result tree.Sum Refusal
+  sum names stands known (syntax.first sign p) = product names stands known p >>= (λ q. Ok (tree.first (is_minus sign) q))
+  sum names stands known (syntax.more s sign p) =
+      sum names stands known s >>= (λ t. product names stands known p >>= (λ q. Ok (tree.more t (is_minus (Some sign)) q)))
+
+  pub product : List Entry → (ℕ → Bool) → Known → syntax.Product → Result tree.Product Refusal
+  product names stands known (syntax.one f) = factor names stands known false f >>= (λ g. Ok (tree.one g))
+  product names stands known (syntax.times p f) =
+      product names stands known p >>= (λ q. factor names stands known false f >>= (λ g. Ok (tree.times q g)))
+  product names stands known (syntax.over p f) =
+      product names stands known p >>= (λ q. factor names stands known true f >>= (λ g. Ok (tree.times q g)))
 
   -- a factor, which stands after `/` or not
-  pub factor : List Entry → (ℕ → Bool) → Bool → syntax.Factor → Result tree.Factor Refusal
-  factor names stands is_over (syntax.factor (syntax.number n) power) = number is_over n power
-  factor names stands is_over (syntax.factor (syntax.name n) power) = name names stands is_over n power
-  factor names stands is_over (syntax.factor (syntax.dot p q) power) = dot names is_over p q power
-  factor names stands is_over (syntax.factor (syntax.delta spot a b) power) = delta names a b power
-  factor names stands is_over (syntax.factor (syntax.empty_call n) power) = empty_call names n power
-  factor names stands is_over (syntax.factor (syntax.call n args) power) = call names n args (arguments names args) power
-  factor names stands is_over (syntax.factor (syntax.parenthesis s) power) =
-      sum names stands s >>= (λ t. size_within largest_power power >>= (λ size. Ok (tree.parenthesis t size)))
+  pub factor : List Entry → (ℕ → Bool) → Known → Bool → syntax.Factor → Result tree.Factor Refusal
+  factor names stands known is_over (syntax.factor b power) = to_power names stands known is_over b power
+  factor names stands known is_over (syntax.raised b sign n) =
+      base names stands known is_over b >>= (λ x. symbol_named names (syntax.name_of n) >>= (λ id. Ok (tree.raised x is_over (is_minus sign) id)))
 
-  pub arguments : List Entry → syntax.Arguments → Result tree.Arguments Refusal
-  arguments names (syntax.argument s) =
-      argument (lone names (alone s)) (sum names none_stands s) >>= (λ a. Ok (tree.further tree.empty a))
-  arguments names (syntax.further args s) =
-      arguments names args >>= (λ before. argument (lone names (alone s)) (sum names none_stands s) >>= (λ a. Ok (tree.further before a)))
+  -- a base to a power that is a number
+  pub to_power : List Entry → (ℕ → Bool) → Known → Bool → syntax.Base → Option Power → Result tree.Factor Refusal
+  to_power names stands known is_over (syntax.number n) power = number is_over n power
+  to_power names stands known is_over (syntax.name n) power = name names stands known is_over (syntax.name_of n) power
+  to_power names stands known is_over (syntax.dot p q) power = dot names is_over (syntax.name_of p) (syntax.name_of q) power
+  to_power names stands known is_over (syntax.delta spot a b) power = delta names a b power
+  to_power names stands known is_over (syntax.empty_call n) power = empty_call names (syntax.name_of n) power
+  to_power names stands known is_over (syntax.call n args) power = call names (syntax.name_of n) args (arguments names known args) power
+  to_power names stands known is_over (syntax.parenthesis s) power =
+      sum names stands known s >>= (λ t. size_within largest_power power >>= (λ size. Ok (tree.parenthesis t size)))
 
-abbrev pub pieces_from : List Entry → (ℕ → Bool) → Option syntax.Sum → Result (List resolved.Piece) Refusal
-pieces_from names stands None = Ok []
-pieces_from names stands (Some s) = sum names stands s >>= (λ t. Ok (tree.pieces_of_sum t))
+  -- A base to a power that is a name, so of which isn't known what it will be.
+  pub base : List Entry → (ℕ → Bool) → Known → Bool → syntax.Base → Result tree.Base Refusal
+  base names stands known is_over (syntax.number n) = number_base n
+  base names stands known is_over (syntax.name n) = name_base names known is_over (syntax.name_of n)
+  base names stands known is_over (syntax.dot p q) = dot_base names (syntax.name_of p) (syntax.name_of q)
+  base names stands known is_over (syntax.delta spot a b) = delta_base names a b
+  base names stands known is_over (syntax.empty_call n) = head names (syntax.name_of n) >>= empty_call_base (syntax.name_of n)
+  base names stands known is_over (syntax.call n args) =
+      head names (syntax.name_of n) >>= call_base names (syntax.name_of n) args (arguments names known args)
+  base names stands known is_over (syntax.parenthesis s) = sum names stands known s >>= (λ t. Ok (tree.parenthesis_base t))
+
+  pub arguments : List Entry → Known → syntax.Arguments → Result tree.Arguments Refusal
+  arguments names known (syntax.argument a) = one_argument names known a >>= (λ x. Ok (tree.further tree.empty x))
+  arguments names known (syntax.further args a) =
+      arguments names known args >>= (λ before. one_argument names known a >>= (λ x. Ok (tree.further before x)))
+
+  pub one_argument : List Entry → Known → syntax.Argument → Result tree.Argument Refusal
+  one_argument names known (syntax.expression s) = argument (lone names (alone s)) (sum names none_stands known s)
+  one_argument names known (syntax.field n) = Ok (tree.field (field_number known.fields n.name))
+
+abbrev pub pieces_from : List Entry → (ℕ → Bool) → Known → Option syntax.Sum → Result (List resolved.Piece) Refusal
+pieces_from names stands known None = Ok []
+pieces_from names stands known (Some s) = sum names stands known s >>= (λ t. Ok (tree.pieces_of_sum t))
 
 -- the pieces of the tree that has these pieces, as each lawful right side has one
-unfoldable pub right_side : List Entry → (ℕ → Bool) → List Piece → Result (List resolved.Piece) Refusal
-right_side names stands list = pieces_from names stands (tree_of list)
+unfoldable pub right_side : List Entry → (ℕ → Bool) → Known → List Piece → Result (List resolved.Piece) Refusal
+right_side names stands known list = pieces_from names stands known (tree_of list)

@@ -8,13 +8,26 @@ use Rattle.form_term.specs.declared.index.Index.{Index}
 use Rattle.form_term.specs.declared.index.Index.TheVariants as indices
 use Rattle.form_tree.specs.declared.tree.Piece.{Piece}
 use Rattle.form_tree.specs.declared.tree.Piece.TheVariants as pieces
-use Rattle.form_tree.specs.Tree.{Sum, pieces_of_sum}
+use Rattle.form_tree.specs.declared.tree.Base.{Base}
+use Rattle.form_tree.specs.declared.tree.Base.TheVariants as bases
+use Rattle.form_tree.specs.declared.pattern.Name.{Name}
+use Rattle.form_tree.specs.declared.pattern.Name.TheVariants.{Itself, Wild}
+use Rattle.form_tree.specs.declared.pattern.IndexName.{IndexName}
+use Rattle.form_tree.specs.declared.pattern.IndexName.TheVariants as index_names
+use Rattle.form_tree.specs.declared.pattern.Sort.{Sort}
+use Rattle.form_tree.specs.declared.pattern.Sort.TheVariants as sorts
+use Rattle.form_tree.specs.declared.pattern.PatternPiece.{PatternPiece}
+use Rattle.form_tree.specs.declared.pattern.PatternPiece.TheVariants as of_pattern
+use Rattle.form_tree.specs.Pattern.{Factors, pieces_of_factors}
+use Rattle.form_tree.specs.Patterns.{Pieces}
+use Rattle.form_tree.specs.Tree.{Sum, Argument, pieces_of_sum, pieces_of_argument}
 use Rattle.form_check.specs.declared.checked.Checked.{Checked}
-use Rattle.form_check.specs.declared.checked.Checked.TheVariants.{Drop, Skip, Local, Print}
+use Rattle.form_check.specs.declared.checked.Checked.TheVariants.{Drop, Skip, Local, Rewrite, Print}
+use Rattle.form_check.specs.declared.checked.Rewriting.{Rewriting}
 use Rattle.form_check.specs.declared.checked.Selection.{Selection}
 use Rattle.form_check.specs.declared.checked.Selection.TheVariants as selections
 use Rattle.form_check.specs.Program.{Program}
-use Rattle.form_check.specs.RightSide.{largest_number, largest_exponent, largest_power, largest_index}
+use Rattle.form_check.specs.RightSide.{largest_number, largest_exponent, largest_power, largest_index, none_stands}
 use Rattle.form_check.specs.Standing.{stands}
 
 -- the Id is one of the names, of this kind
@@ -27,11 +40,24 @@ IsIndexSound names (indices.Fixed n) = n ≤ largest_index
 IsIndexSound names (indices.Declared id) = (d : Dimension) × IsOfKind (kinds.Index d) names id
 IsIndexSound names (indices.Dummy n) = ⊥
 
+-- what stands below a power that a wildcard stands for
+abbrev pub IsBaseSound : List Entry → Base → Type 0
+IsBaseSound names (bases.Number value) = value ≤ largest_number
+IsBaseSound names (bases.Symbol id) = IsOfKind kinds.Symbol names id
+IsBaseSound names (bases.Wild id) = IsOfKind kinds.Symbol names id
+IsBaseSound names (bases.Dot left right) = IsOfKind kinds.Vector names left × IsOfKind kinds.Vector names right
+IsBaseSound names bases.Imaginary = Unit {0}
+IsBaseSound names (bases.Component c) = IsOfKind kinds.Vector names c.vector × IsIndexSound names c.index
+IsBaseSound names (bases.Delta i j) = IsIndexSound names i × IsIndexSound names j
+
 -- numbers are in their limits, and names of their kind; an expression stands
 abbrev pub IsPieceSound : List Entry → (ℕ → Bool) → Piece → Type 0
 IsPieceSound names stands (pieces.Number link value power) = (value ≤ largest_number) × (nat_abs power ≤ largest_power)
 IsPieceSound names stands (pieces.Symbol link id power) =
     IsOfKind kinds.Symbol names id × (nat_abs power ≤ largest_exponent)
+IsPieceSound names stands (pieces.Wild link id is_over power) =
+    IsOfKind kinds.Symbol names id × (nat_abs power ≤ largest_exponent)
+IsPieceSound names stands (pieces.Raised link base by) = IsBaseSound names base × IsOfKind kinds.Symbol names by.symbol
 IsPieceSound names stands (pieces.Stored link id power) =
     IsOfKind kinds.Expression names id × IsTrue (stands id) × (power ≤ largest_power)
 IsPieceSound names stands (pieces.Imaginary link power) = power ≤ largest_power
@@ -43,18 +69,73 @@ IsPieceSound names stands (pieces.Delta link i j power) = IsIndexSound names i �
 IsPieceSound names stands (pieces.Function link id is_commuting) =
     IsOfKind (if is_commuting then kinds.CommutingFunction else kinds.Function) names id
 IsPieceSound names stands (pieces.EndOfFunction power) = power ≤ largest_power
+IsPieceSound names stands (pieces.EndOfRaisedFunction by) = IsOfKind kinds.Symbol names by.symbol
+IsPieceSound names stands (pieces.Field w) = Unit {0}
 IsPieceSound names stands (pieces.Index i) = IsIndexSound names i
 IsPieceSound names stands (pieces.Vector id) = IsOfKind kinds.Vector names id
 IsPieceSound names stands pieces.Argument = Unit {0}
 IsPieceSound names stands pieces.EndOfArgument = Unit {0}
 IsPieceSound names stands (pieces.Open link) = Unit {0}
 IsPieceSound names stands (pieces.Close power) = power ≤ largest_power
+IsPieceSound names stands (pieces.CloseRaised by) = IsOfKind kinds.Symbol names by.symbol
 
 -- a right side: its pieces are those of a tree
 pub record IsRightSideSound (names : List Entry) (stands : ℕ → Bool) (list : List Piece) : Type 0 where
   pub tree : Sum
   pub pieces : list ≡ pieces_of_sum tree
   pub each : All (IsPieceSound names stands) list
+
+-- a name of a pattern, of this kind
+abbrev pub IsNameSound : Kind → List Entry → Name → Type 0
+IsNameSound kind names (Itself id) = IsOfKind kind names id
+IsNameSound kind names (Wild id sets) = IsOfKind kind names id
+
+-- an index in a pattern
+abbrev pub IsIndexNameSound : List Entry → IndexName → Type 0
+IsIndexNameSound names (index_names.Fixed n) = n ≤ largest_index
+IsIndexNameSound names (index_names.Name n) = (d : Dimension) × IsNameSound (kinds.Index d) names n
+
+-- a wildcard that is an argument
+abbrev pub IsAnySound : List Entry → Sort → Name → Type 0
+IsAnySound names sorts.Expression n = IsNameSound kinds.Symbol names n
+IsAnySound names sorts.Index n = (d : Dimension) × IsNameSound (kinds.Index d) names n
+IsAnySound names sorts.Vector n = IsNameSound kinds.Vector names n
+
+-- names in a pattern are of their kinds
+abbrev pub IsPatternPieceSound : List Entry → PatternPiece → Type 0
+IsPatternPieceSound names (of_pattern.Symbol n k) = IsNameSound kinds.Symbol names n
+IsPatternPieceSound names (of_pattern.Whole n m) = IsNameSound kinds.Symbol names n × IsNameSound kinds.Symbol names m
+IsPatternPieceSound names (of_pattern.Dot p q k) = IsNameSound kinds.Vector names p × IsNameSound kinds.Vector names q
+IsPatternPieceSound names (of_pattern.Component v i) = IsNameSound kinds.Vector names v × IsIndexNameSound names i
+IsPatternPieceSound names (of_pattern.Delta i j) = IsIndexNameSound names i × IsIndexNameSound names j
+IsPatternPieceSound names (of_pattern.Function n) = IsNameSound kinds.CommutingFunction names n
+IsPatternPieceSound names (of_pattern.Word count) = Unit {0}
+IsPatternPieceSound names (of_pattern.Call n) = IsNameSound kinds.Function names n
+IsPatternPieceSound names of_pattern.EndOfArguments = Unit {0}
+IsPatternPieceSound names of_pattern.EndOfWord = Unit {0}
+IsPatternPieceSound names (of_pattern.Fixed k) = Unit {0}
+IsPatternPieceSound names (of_pattern.Any sort n) = IsAnySound names sort n
+IsPatternPieceSound names (of_pattern.Field w) = Unit {0}
+IsPatternPieceSound names of_pattern.Product = Unit {0}
+IsPatternPieceSound names of_pattern.EndOfProduct = Unit {0}
+
+-- an argument of a pattern without wildcards: its pieces are those of a tree
+pub record IsFixedSound (names : List Entry) (list : List Piece) : Type 0 where
+  pub tree : Argument
+  pub pieces : list ≡ pieces_of_argument tree
+  pub each : All (IsPieceSound names none_stands) list
+
+-- a pattern: its pieces are those of factors
+pub record IsPatternSound (names : List Entry) (p : Pieces) : Type 0 where
+  pub tree : Factors
+  pub pieces : p.pieces ≡ pieces_of_factors tree
+  pub each : All (IsPatternPieceSound names) p.pieces
+  pub fixed : All (IsFixedSound names) p.fixed
+
+-- an `id` or an `also`, in whose right side no expression is named
+pub record IsRewritingSound (names : List Entry) (r : Rewriting) : Type 0 where
+  pub pattern : IsPatternSound names r.pattern
+  pub right : IsRightSideSound names none_stands r.right
 
 abbrev pub IsSelectionSound : List Entry → Selection → Type 0
 IsSelectionSound names selections.All = Unit {0}
@@ -66,6 +147,7 @@ IsStatementSound names stands (Drop which) = IsSelectionSound names which
 IsStatementSound names stands (Skip which) = IsSelectionSound names which
 IsStatementSound names stands (Local id right) =
     IsOfKind kinds.Expression names id × IsRightSideSound names stands right
+IsStatementSound names stands (Rewrite is_also r) = IsRewritingSound names r
 IsStatementSound names stands (Print which) = IsSelectionSound names which
 
 -- the modules that come after others

@@ -2,7 +2,7 @@
 use Rattle.std.specs.Prelude.{ℕ, Bool, true, false, ◌==◌, ◌&&◌, ◌||◌, not, List, fold}
 use Rattle.std.specs.List.{list_any}
 use Rattle.form_check.specs.declared.checked.Checked.{Checked}
-use Rattle.form_check.specs.declared.checked.Checked.TheVariants.{Drop, Skip, Local, Print}
+use Rattle.form_check.specs.declared.checked.Checked.TheVariants.{Drop, Skip, Local, Rewrite, Print}
 use Rattle.form_check.specs.declared.checked.Selection.{Selection}
 use Rattle.form_check.specs.declared.checked.Selection.TheVariants.{All, Named}
 
@@ -15,12 +15,14 @@ abbrev pub is_definition : ℕ → Checked → Bool
 is_definition expression (Drop which) = false
 is_definition expression (Skip which) = false
 is_definition expression (Local id tree) = id == expression
+is_definition expression (Rewrite is_also r) = false
 is_definition expression (Print which) = false
 
 abbrev pub is_drop : ℕ → Checked → Bool
 is_drop expression (Drop which) = means which expression
 is_drop expression (Skip which) = false
 is_drop expression (Local id tree) = false
+is_drop expression (Rewrite is_also r) = false
 is_drop expression (Print which) = false
 
 -- a module, as its statements, defines the expression

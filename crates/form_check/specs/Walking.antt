@@ -4,8 +4,8 @@ use Rattle.form_names.specs.Names.{Entry}
 use Rattle.form_ast.specs.declared.expr.Link.{Link}
 use Rattle.form_ast.specs.declared.expr.Link.TheVariants as links
 use Rattle.form_ast.specs.declared.expr.Named.{Named}
-use Rattle.form_ast.specs.declared.expr.Entry as entries
-use Rattle.form_ast.specs.declared.expr.Entry.TheVariants as by_entry
+use Rattle.form_ast.specs.declared.expr.Sign.{Sign}
+use Rattle.form_ast.specs.Syntax as syntax
 use Rattle.form_ast.specs.declared.expr.Power.{Power}
 use Rattle.form_ast.specs.declared.expr.Piece.{Piece}
 use Rattle.form_ast.specs.declared.expr.Piece.TheVariants as written
@@ -13,6 +13,9 @@ use Rattle.form_tree.specs.declared.tree.Link as resolved_link
 use Rattle.form_tree.specs.declared.tree.Link.TheVariants as resolved_links
 use Rattle.form_tree.specs.declared.tree.Piece as resolved
 use Rattle.form_tree.specs.declared.tree.Piece.TheVariants as pieces
+use Rattle.form_tree.specs.declared.tree.Base as bases
+use Rattle.form_tree.specs.declared.tree.Base.TheVariants as by_base
+use Rattle.form_tree.specs.declared.tree.Exponent.{Exponent}
 use Rattle.form_tree.specs.Tree as tree
 use Rattle.form_check.specs.declared.resolved.End as ends
 use Rattle.form_check.specs.declared.resolved.End.TheVariants as an_end
@@ -22,7 +25,7 @@ use Rattle.form_check.specs.declared.walk.Place.{Place}
 use Rattle.form_check.specs.declared.walk.Place.TheVariants as places
 use Rattle.form_check.specs.declared.walk.Walk as walks
 use Rattle.form_check.specs.Refusal.{Refusal, ◌>>=◌}
-use Rattle.form_check.specs.RightSide.{largest_exponent, largest_power, size_within, exponent, spelled_of, wrong, wrong_kind, misplaced, delta_at, named_end, fixed_end, number, name, vector, end, linked_to, head, lone, none_stands}
+use Rattle.form_check.specs.RightSide.{Known, field_number, is_minus, symbol_named, number_base, name_base, linked_base, largest_exponent, largest_power, size_within, exponent, spelled_of, wrong, wrong_kind, misplaced, delta_at, named_end, fixed_end, number, name, vector, end, linked_to, head, lone, nothing_known, none_stands}
 
 -- how a factor stands to what is before it, where a division is left to its power
 abbrev pub link_of : Link → resolved_link.Link
@@ -73,6 +76,41 @@ abbrev pub power_at : List Piece → Option Power
 power_at [] = None
 power_at (p ∷ rest) = power_of p
 
+-- such a power that is a name, with its sign
+abbrev pub name_power_of : Piece → Option (Option Sign × Named)
+name_power_of (written.RaisedByName sign n) = Some (sign, n)
+name_power_of _ = None
+
+abbrev pub name_power_at : List Piece → Option (Option Sign × Named)
+name_power_at [] = None
+name_power_at (p ∷ rest) = name_power_of p
+
+-- what such a power is, behind what stands after `/` or not
+abbrev pub exponent_by : List Entry → Bool → Option Sign × Named → Result Exponent Refusal
+exponent_by names is_over by = symbol_named names by.1 >>= (λ id. Ok (tree.exponent is_over (is_minus by.0) id))
+
+-- a base that is one piece
+abbrev pub base_of : bases.Base → tree.Base
+base_of (by_base.Number value) = tree.number_base value
+base_of (by_base.Symbol id) = tree.symbol_base id
+base_of (by_base.Wild id) = tree.wild_base id
+base_of (by_base.Dot left right) = tree.dot_base left right
+base_of by_base.Imaginary = tree.imaginary_base
+base_of (by_base.Component c) = tree.component_base c
+base_of (by_base.Delta i j) = tree.delta_base i j
+
+-- a base to a power that is a name
+abbrev pub raised : List Entry → Bool → Option Sign × Named → Result tree.Base Refusal → Result tree.Factor Refusal
+raised names is_over by b = b >>= (λ x. symbol_named names by.1 >>= (λ id. Ok (tree.raised x is_over (is_minus by.0) id)))
+
+-- a factor whose power is a name, where it has such a one, or a number
+abbrev pub by_name : List Entry → Bool → Option (Option Sign × Named) → Result tree.Base Refusal → Result tree.Factor Refusal → Result tree.Factor Refusal
+by_name names is_over None b f = f
+by_name names is_over (Some by) b f = raised names is_over by b
+
+abbrev pub by_power : List Entry → Bool → List Piece → Result tree.Base Refusal → Result tree.Factor Refusal → Result tree.Factor Refusal
+by_power names is_over rest b f = by_name names is_over (name_power_at rest) b f
+
 -- ---- arguments
 
 abbrev pub ends_argument : List Piece → Bool
@@ -81,15 +119,15 @@ ends_argument (written.EndOfCall ∷ rest) = true
 ends_argument _ = false
 
 -- a piece that is a whole argument, if that ends behind it, without a power
-abbrev pub alone_piece : Piece → Option entries.Entry
-alone_piece (written.Number links.First n) = Some (by_entry.Number n)
-alone_piece (written.Name links.First n) = Some (by_entry.Name n)
+abbrev pub alone_piece : Piece → Option syntax.Entry
+alone_piece (written.Number links.First n) = Some (syntax.number_entry n)
+alone_piece (written.Name links.First n) = Some (syntax.name_entry (syntax.named n))
 alone_piece _ = None
 
-abbrev pub alone_before : List Piece → Piece → Option entries.Entry
+abbrev pub alone_before : List Piece → Piece → Option syntax.Entry
 alone_before rest p = if ends_argument rest then alone_piece p else None
 
-abbrev pub alone_at : List Piece → Option entries.Entry
+abbrev pub alone_at : List Piece → Option syntax.Entry
 alone_at [] = None
 alone_at (p ∷ rest) = alone_before rest p
 
@@ -113,7 +151,7 @@ misplaced_to_end names (_ ∷ rest) none = misplaced_to_end names rest none
 
 -- ---- one piece further
 
-abbrev pub component_begun : List Entry → Walk → Link → Named → ℕ → List Piece → Option entries.Entry → Result Walk Refusal
+abbrev pub component_begun : List Entry → Walk → Link → Named → ℕ → List Piece → Option syntax.Entry → Result Walk Refusal
 component_begun names w link n id rest (Some e) = Ok (moved w (places.Vector link id))
 component_begun names w link n id rest None = Err (misplaced_to_end names rest (wrong (spelled_of n)))
 
@@ -126,31 +164,46 @@ called_by names w link n rest (a_head.Vector id) =
 abbrev pub called : List Entry → Walk → Link → Named → List Piece → Result Walk Refusal
 called names w link n rest = head names n >>= called_by names w link n rest
 
+-- what ends with a power, which is a number or a name
+abbrev pub ended_by : List Entry → List Piece → (ℕ → resolved.Piece) → (Exponent → resolved.Piece) → Option (Option Sign × Named) → Result resolved.Piece Refusal
+ended_by names rest ends raises None = size_within largest_power (power_at rest) >>= (λ size. Ok (ends size))
+ended_by names rest ends raises (Some by) = exponent_by names false by >>= (λ e. Ok (raises e))
+
+abbrev pub end_of_function : List Entry → List Piece → Result resolved.Piece Refusal
+end_of_function names rest = ended_by names rest (λ size. pieces.EndOfFunction size) (λ e. pieces.EndOfRaisedFunction e) (name_power_at rest)
+
+abbrev pub end_of_parenthesis : List Entry → List Piece → Result resolved.Piece Refusal
+end_of_parenthesis names rest = ended_by names rest (λ size. pieces.Close size) (λ e. pieces.CloseRaised e) (name_power_at rest)
+
 -- the arguments of a function end
-abbrev pub call_ended : Walk → Option Power → Result Walk Refusal
-call_ended w power = size_within largest_power power >>= (λ size. Ok (at (w.pieces ++ pieces.EndOfFunction size ∷ []) places.Sum (w.calls - 1)))
+abbrev pub call_ended : List Entry → Walk → List Piece → Result Walk Refusal
+call_ended names w rest = end_of_function names rest >>= (λ p. Ok (at (w.pieces ++ p ∷ []) places.Sum (w.calls - 1)))
+
+-- a sum in parentheses ends
+abbrev pub closed : List Entry → Walk → List Piece → Result Walk Refusal
+closed names w rest = end_of_parenthesis names rest >>= (λ p. Ok (at (w.pieces ++ p ∷ []) places.Sum w.calls))
 
 -- an argument that is an expression ends
 abbrev pub argument_ended : Walk → Walk
 argument_ended w = at (w.pieces ++ pieces.EndOfArgument ∷ []) w.place w.calls
 
-abbrev pub in_sum : List Entry → (ℕ → Bool) → Walk → Piece → List Piece → Result Walk Refusal
-in_sum names stands w (written.Number link n) rest = adds w link (number (is_over link) n (power_at rest))
-in_sum names stands w (written.Name link n) rest = adds w link (name names (may_name w.calls stands) (is_over link) n (power_at rest))
-in_sum names stands w (written.Dot link p) rest = vector names p >>= (λ left. Ok (moved w (places.Dot link left)))
-in_sum names stands w (written.Delta link spot) rest = Ok (moved w (places.Delta link))
-in_sum names stands w (written.Call link n) rest = called names w link n rest
-in_sum names stands w written.Comma rest = Ok (moved (argument_ended w) places.Argument)
-in_sum names stands w written.EndOfCall rest = call_ended (argument_ended w) (power_at rest)
-in_sum names stands w (written.Open link) rest = Ok (at (w.pieces ++ pieces.Open (link_of link) ∷ []) places.Sum w.calls)
-in_sum names stands w written.Close rest =
-    size_within largest_power (power_at rest) >>= (λ size. Ok (at (w.pieces ++ pieces.Close size ∷ []) places.Sum w.calls))
+abbrev pub in_sum : List Entry → (ℕ → Bool) → Known → Walk → Piece → List Piece → Result Walk Refusal
+in_sum names stands known w (written.Number link n) rest = adds w link (by_power names (is_over link) rest (number_base n) (number (is_over link) n (power_at rest)))
+in_sum names stands known w (written.Name link n) rest =
+    adds w link (by_power names (is_over link) rest (name_base names known (is_over link) n) (name names (may_name w.calls stands) known (is_over link) n (power_at rest)))
+in_sum names stands known w (written.Dot link p) rest = vector names p >>= (λ left. Ok (moved w (places.Dot link left)))
+in_sum names stands known w (written.Delta link spot) rest = Ok (moved w (places.Delta link))
+in_sum names stands known w (written.Call link n) rest = called names w link n rest
+in_sum names stands known w written.Comma rest = Ok (moved (argument_ended w) places.Argument)
+in_sum names stands known w written.EndOfCall rest = call_ended names (argument_ended w) rest
+in_sum names stands known w (written.Open link) rest = Ok (at (w.pieces ++ pieces.Open (link_of link) ∷ []) places.Sum w.calls)
+in_sum names stands known w written.Close rest = closed names w rest
 -- a power was looked at where its factor ends
-in_sum names stands w _ rest = Ok w
+in_sum names stands known w _ rest = Ok w
 
-abbrev pub argument_begun : List Entry → (ℕ → Bool) → Walk → Piece → List Piece → Option tree.Argument → Result Walk Refusal
-argument_begun names stands w p rest (Some a) = Ok (at (w.pieces ++ tree.pieces_of_argument a) places.Behind w.calls)
-argument_begun names stands w p rest None = in_sum names stands (at (w.pieces ++ pieces.Argument ∷ []) places.Sum w.calls) p rest
+abbrev pub argument_begun : List Entry → (ℕ → Bool) → Known → Walk → Piece → List Piece → Option tree.Argument → Result Walk Refusal
+argument_begun names stands known w p rest (Some a) = Ok (at (w.pieces ++ tree.pieces_of_argument a) places.Behind w.calls)
+argument_begun names stands known w p rest None = in_sum names stands known (at (w.pieces ++ pieces.Argument ∷ []) places.Sum w.calls) p rest
 
 -- a piece is this argument, where it is one
 abbrev pub IsLone : Option resolved.Piece → Option tree.Argument → Type 0
@@ -162,31 +215,43 @@ abbrev pub ends_call : Piece → Bool
 ends_call written.EndOfCall = true
 ends_call _ = false
 
+-- a field, which is a whole argument
+abbrev pub field_of : Known → Piece → Option ℕ
+field_of known (written.Field n) = Some (field_number known.fields n.name)
+field_of known _ = None
+
+abbrev pub field_or_argument : List Entry → (ℕ → Bool) → Known → Walk → Piece → List Piece → Option ℕ → Result Walk Refusal
+field_or_argument names stands known w p rest (Some n) = Ok (at (w.pieces ++ pieces.Field n ∷ []) places.Behind w.calls)
+field_or_argument names stands known w p rest None = argument_begun names stands known w p rest (lone names (alone_before rest p))
+
 -- where an argument may begin
-abbrev pub in_arguments : List Entry → (ℕ → Bool) → Walk → Piece → List Piece → Result Walk Refusal
-in_arguments names stands w p rest =
-    if ends_call p then call_ended w (power_at rest) else argument_begun names stands w p rest (lone names (alone_before rest p))
+abbrev pub in_arguments : List Entry → (ℕ → Bool) → Known → Walk → Piece → List Piece → Result Walk Refusal
+in_arguments names stands known w p rest =
+    if ends_call p then call_ended names w rest else field_or_argument names stands known w p rest (field_of known p)
 
 -- behind an argument that is an index or a vector alone
-abbrev pub behind_argument : Walk → Piece → List Piece → Result Walk Refusal
-behind_argument w written.Comma rest = Ok (moved w places.Argument)
-behind_argument w written.EndOfCall rest = call_ended w (power_at rest)
-behind_argument w _ rest = Ok w
+abbrev pub behind_argument : List Entry → Walk → Piece → List Piece → Result Walk Refusal
+behind_argument names w written.Comma rest = Ok (moved w places.Argument)
+behind_argument names w written.EndOfCall rest = call_ended names w rest
+behind_argument names w _ rest = Ok w
+
+abbrev pub dot_to : Bool → ℕ → ℕ → Option Power → Result tree.Factor Refusal
+dot_to over left right power = size_within largest_exponent power >>= (λ size. Ok (tree.dot left right (exponent over power size)))
 
 abbrev pub dot_ended : List Entry → Walk → Link → ℕ → Piece → List Piece → Result Walk Refusal
 dot_ended names w link left (written.EndOfDot q) rest =
-    adds w link (vector names q >>= (λ right. size_within largest_exponent (power_at rest) >>= (λ size. Ok (tree.dot left right (exponent (is_over link) (power_at rest) size)))))
+    vector names q >>= (λ right. adds w link (by_power names (is_over link) rest (Ok (tree.dot_base left right)) (dot_to (is_over link) left right (power_at rest))))
 dot_ended names w link left _ rest = Ok w
 
 -- what a name or a number is that stands alone in the parentheses of a vector or of `d_`
-abbrev pub alone_end : List Entry → Option entries.Entry → Result (Option ends.End) Refusal
+abbrev pub alone_end : List Entry → Option syntax.Entry → Result (Option ends.End) Refusal
 alone_end names None = Ok None
 alone_end names (Some e) = end names e >>= (λ x. Ok (Some x))
 
 -- a piece that is an argument of `d_`
-abbrev pub entry_piece : Piece → Option entries.Entry
-entry_piece (written.EntryName n) = Some (by_entry.Name n)
-entry_piece (written.EntryNumber n) = Some (by_entry.Number n)
+abbrev pub entry_piece : Piece → Option syntax.Entry
+entry_piece (written.EntryName n) = Some (syntax.name_entry (syntax.named n))
+entry_piece (written.EntryNumber n) = Some (syntax.number_entry n)
 entry_piece _ = None
 
 abbrev pub first_given : Walk → Link → Option ends.End → Walk
@@ -203,9 +268,9 @@ second_given w link first None = w
 abbrev pub second_taken : List Entry → Walk → Link → ends.End → Piece → Result Walk Refusal
 second_taken names w link first p = alone_end names (entry_piece p) >>= (λ e. Ok (second_given w link first e))
 
-abbrev pub delta_ended : Walk → Link → ends.End → ends.End → Piece → List Piece → Result Walk Refusal
-delta_ended w link first second written.EndOfDelta rest = adds w link (linked_to first second (power_at rest))
-delta_ended w link first second _ rest = Ok w
+abbrev pub delta_ended : List Entry → Walk → Link → ends.End → ends.End → Piece → List Piece → Result Walk Refusal
+delta_ended names w link first second written.EndOfDelta rest = adds w link (by_power names (is_over link) rest (Ok (linked_base first second)) (linked_to first second (power_at rest)))
+delta_ended names w link first second _ rest = Ok w
 
 abbrev pub component_given : Walk → Link → ℕ → Option ends.End → Walk
 component_given w link id (Some x) = moved w (places.Component link id x)
@@ -214,25 +279,43 @@ component_given w link id None = w
 abbrev pub component_taken : List Entry → Walk → Link → ℕ → Piece → Result Walk Refusal
 component_taken names w link id p = alone_end names (alone_piece p) >>= (λ e. Ok (component_given w link id e))
 
-abbrev pub component_ended : Walk → Link → ℕ → ends.End → Piece → List Piece → Result Walk Refusal
-component_ended w link id x written.EndOfCall rest = adds w link (linked_to (an_end.Vector id) x (power_at rest))
-component_ended w link id x _ rest = Ok w
+abbrev pub component_ended : List Entry → Walk → Link → ℕ → ends.End → Piece → List Piece → Result Walk Refusal
+component_ended names w link id x written.EndOfCall rest = adds w link (by_power names (is_over link) rest (Ok (linked_base (an_end.Vector id) x)) (linked_to (an_end.Vector id) x (power_at rest)))
+component_ended names w link id x _ rest = Ok w
 
-abbrev pub taken_at : List Entry → (ℕ → Bool) → Walk → Piece → List Piece → Place → Result Walk Refusal
-taken_at names stands w p rest places.Sum = in_sum names stands w p rest
-taken_at names stands w p rest places.Argument = in_arguments names stands w p rest
-taken_at names stands w p rest places.Behind = behind_argument w p rest
-taken_at names stands w p rest (places.Dot link left) = dot_ended names w link left p rest
-taken_at names stands w p rest (places.Delta link) = first_taken names w link p
-taken_at names stands w p rest (places.SecondEntry link first) = second_taken names w link first p
-taken_at names stands w p rest (places.EndOfDelta link first second) = delta_ended w link first second p rest
-taken_at names stands w p rest (places.Vector link id) = component_taken names w link id p
-taken_at names stands w p rest (places.Component link id x) = component_ended w link id x p rest
+abbrev pub taken_at : List Entry → (ℕ → Bool) → Known → Walk → Piece → List Piece → Place → Result Walk Refusal
+taken_at names stands known w p rest places.Sum = in_sum names stands known w p rest
+taken_at names stands known w p rest places.Argument = in_arguments names stands known w p rest
+taken_at names stands known w p rest places.Behind = behind_argument names w p rest
+taken_at names stands known w p rest (places.Dot link left) = dot_ended names w link left p rest
+taken_at names stands known w p rest (places.Delta link) = first_taken names w link p
+taken_at names stands known w p rest (places.SecondEntry link first) = second_taken names w link first p
+taken_at names stands known w p rest (places.EndOfDelta link first second) = delta_ended names w link first second p rest
+taken_at names stands known w p rest (places.Vector link id) = component_taken names w link id p
+taken_at names stands known w p rest (places.Component link id x) = component_ended names w link id x p rest
 
-abbrev pub taken : List Entry → (ℕ → Bool) → Walk → Piece → List Piece → Result Walk Refusal
-taken names stands w p rest = taken_at names stands w p rest w.place
+abbrev pub taken : List Entry → (ℕ → Bool) → Known → Walk → Piece → List Piece → Result Walk Refusal
+taken names stands known w p rest = taken_at names stands known w p rest w.place
 
 -- all pieces
-unfoldable pub walked : List Entry → (ℕ → Bool) → Walk → List Piece → Result Walk Refusal
-walked names stands w [] = Ok w
-walked names stands w (p ∷ rest) = taken names stands w p rest >>= (λ next. walked names stands next rest)
+unfoldable pub walked : List Entry → (ℕ → Bool) → Known → Walk → List Piece → Result Walk Refusal
+walked names stands known w [] = Ok w
+walked names stands known w (p ∷ rest) = taken names stands known w p rest >>= (λ next. walked names stands known next rest)
+
+-- ---- an argument of a pattern, without wildcards
+
+abbrev pub alone_last : List Piece → Piece → Option syntax.Entry
+alone_last [] p = alone_piece p
+alone_last (q ∷ others) p = None
+
+abbrev pub alone_list : List Piece → Option syntax.Entry
+alone_list [] = None
+alone_list (p ∷ rest) = alone_last rest p
+
+abbrev pub argument_by : List Entry → (ℕ → Bool) → List Piece → Option tree.Argument → Result (List resolved.Piece) Refusal
+argument_by names stands list (Some a) = Ok (tree.pieces_of_argument a)
+argument_by names stands list None =
+    walked names stands nothing_known (at (pieces.Argument ∷ []) places.Sum 1) list >>= (λ w. Ok (w.pieces ++ pieces.EndOfArgument ∷ []))
+
+abbrev pub argument_walked : List Entry → (ℕ → Bool) → List Piece → Result (List resolved.Piece) Refusal
+argument_walked names stands list = argument_by names stands list (lone names (alone_list list))

@@ -1,7 +1,7 @@
 ghost use Rattle.std.specs.Prelude.{◌≡◌};
 
-use form_base::Id;
-use form_tree::Tree;
+use form_base::{Id, Taking};
+use form_tree::{Pattern, Tree};
 use std::marker::Model;
 
 /// Ids, in a clause their list.
@@ -55,6 +55,15 @@ impl Selection {
     }
 }
 
+/// What is put in for what: an `id` or an `also`.
+#[derive(Debug, Drop)]
+pub struct Rewriting {
+    /// Its option, where one is written.
+    pub option: Option<Taking>,
+    pub pattern: Pattern,
+    pub right: Tree,
+}
+
 /// A checked statement. Declarations are in the program's names.
 #[derive(Debug, Drop)]
 pub enum Checked {
@@ -62,6 +71,8 @@ pub enum Checked {
     Skip(Selection),
     /// An expression that is defined, and its right side.
     Local(Id, Tree),
+    /// Whether it is an `also`, and what it puts in.
+    Rewrite(bool, Rewriting),
     Print(Selection),
 }
 

@@ -1,18 +1,24 @@
 ghost use Rattle.std.specs.Prelude.{◌≡◌, ◌+◌, ◌<◌, ◌≤◌, ◌^◌, ◌++◌, [], ◌∷◌, length, All, OnOk, IfOk, IfErr};
-ghost use Rattle.form_ast.specs.Lawful.{AreLawful, IsLawfulStatement, AreLawfulModules};
+ghost use Rattle.form_ast.specs.Lawful.{AreLawful, ArePattern, AreRight, IsLawfulStatement, AreLawfulModules};
 ghost use Rattle.form_check.specs.Checker.{state_of, IsConsistent};
 ghost use Rattle.form_check.specs.Checking as checking;
-ghost use Rattle.form_check.specs.Checking.{definition, is_defined_again, module_checked, program, start, with_statement, most_names};
+ghost use Rattle.form_check.specs.Checking.{definition, is_defined_again, module_checked, program, rewriting, start, with_statement, most_names};
 ghost use Rattle.form_check.specs.Marks.{AreMarksOf};
 ghost use Rattle.form_check.specs.Refusal.{Gives};
+ghost use Rattle.form_check.specs.RightSide.{nothing_known};
 ghost use Rattle.form_check.specs.Sound.{IsSound};
 ghost use Rattle.form_names.specs.Names.{lookup, IsDimension};
 
-use crate::naming::{copy_of, declare, declare_indices, declare_names, dimension, selection_of};
-use crate::right_side::right_side;
+use crate::knowing::known_of;
+use crate::known::Known;
+use crate::naming::{
+    copy_of, declare, declare_indices, declare_names, declare_set, dimension, selection_of,
+};
+use crate::pattern::pattern;
+use crate::right_side::{right_side, right_side_of_pattern};
 use crate::standing::Standing;
-use crate::{CheckError, Checked, Module, Program};
-use form_ast::{Expr, Placed, Spelled, Statement};
+use crate::{CheckError, Checked, Module, Program, Rewriting};
+use form_ast::{Expr, Placed, Rewrite, Spelled, Statement};
 use form_base::Cause;
 use form_names::{Dimension, Kind, Names};
 use std::alloc::Global;
@@ -103,6 +109,9 @@ impl Checker {
                 self.dimension = dimension(alloc, &self.names, written)?;
                 Ok(())
             }
+            Statement::Set(spelled, elements) => {
+                declare_set(alloc, &mut self.names, spelled, elements)
+            }
             Statement::Statistics => Ok(()),
             Statement::Drop(list) => {
                 let which = selection_of(alloc, &self.names, list.as_slice())?;
@@ -114,6 +123,7 @@ impl Checker {
                 self.keep(Checked::Skip(which))
             }
             Statement::Local(spelled, right) => self.define(alloc, spelled, right),
+            Statement::Rewrite(rewrite) => self.rewrite(alloc, rewrite),
             Statement::Print(list) => {
                 let which = selection_of(alloc, &self.names, list.as_slice())?;
                 self.keep(Checked::Print(which))
@@ -134,9 +144,41 @@ impl Checker {
             return Err(CheckError::Refused(Cause::Redeclared(name), spelled.spot));
         }
         let id = declare(alloc, &mut self.names, spelled, Kind::Expression)?;
-        let tree = right_side(alloc, &self.names, &self.standing, right.as_slice())?;
+        let known = nothing(alloc);
+        let tree = right_side(alloc, &self.names, &self.standing, &known, right.as_slice())?;
         self.standing.define(id)?;
         self.keep(Checked::Local(id, tree))
+    }
+
+    /// An `id` or an `also`.
+    fn rewrite(&mut self, alloc: Global, rewrite: &Rewrite) -> Result<(), CheckError>
+        requires consistent { IsConsistent self.old }
+        requires pattern { ArePattern rewrite.now.pattern }
+        requires right { AreRight rewrite.now.pattern rewrite.now.right }
+        ensures checked { Gives (λ _. state_of self.new) result (rewriting (state_of self.old) rewrite.now) }
+        ensures consistent { OnOk result (IsConsistent self.new) }
+        ensures current { OnOk result (self.new.standing.current ≡ self.old.standing.current) }
+    {
+        let written = rewrite.pattern.as_slice();
+        let known = known_of(alloc, &self.names, written)?;
+        let pattern = pattern(alloc, &self.names, &self.standing, &known, written)?;
+        let right = right_side_of_pattern(
+            alloc,
+            &self.names,
+            &self.standing,
+            &known,
+            written,
+            rewrite.right.as_slice(),
+        )?;
+        let option = rewrite.option;
+        self.keep(Checked::Rewrite(
+            rewrite.is_also,
+            Rewriting {
+                option,
+                pattern,
+                right,
+            },
+        ))
     }
 
     /// Whether the module has defined an expression of this name.
@@ -165,7 +207,15 @@ impl Checker {
     }
 }
 
-/// The place of a statement in a module: declarations, what is dropped or skipped, definitions, output.
+/// What a right side knows that has no pattern.
+fn nothing(alloc: Global) -> Known
+    ensures { result ≡ nothing_known }
+{
+    Known::new(Vec::new(alloc), Vec::new(alloc))
+}
+
+/// The place of a statement in a module: declarations, what is dropped or skipped, definitions,
+/// what is carried out, output.
 fn class_of(statement: &Statement) -> u8
     ensures { result ≡ checking.class_of statement.now }
 {
@@ -173,9 +223,11 @@ fn class_of(statement: &Statement) -> u8
         Statement::Names(_, _)
         | Statement::Indices(_)
         | Statement::Dimension(_)
+        | Statement::Set(_, _)
         | Statement::Statistics => 1,
         Statement::Drop(_) | Statement::Skip(_) => 2,
         Statement::Local(_, _) => 3,
+        Statement::Rewrite(_) => 4,
         Statement::Print(_) => 5,
     }
 }

@@ -5,17 +5,24 @@
 mod checked;
 mod checker;
 mod error;
+mod joining;
 mod kinds;
+mod knowing;
+mod known;
 pub mod laws;
 mod naming;
+mod pattern;
 mod powers;
 mod program;
+mod putting;
+mod raised;
 mod resolved;
 mod right_side;
+mod sets;
 mod standing;
 mod walk;
 
-pub use checked::{Checked, IdList, Module, Selection};
+pub use checked::{Checked, IdList, Module, Rewriting, Selection};
 pub use checker::check;
 pub use error::CheckError;
 pub use program::Program;

@@ -1,16 +1,18 @@
 //! Names where they are declared, and where expressions are meant.
-ghost use Rattle.std.specs.Prelude.{◌≡◌, ◌<◌, ◌≤◌, List, Some, length, IfOk, OnOk};
+ghost use Rattle.std.specs.Prelude.{◌≡◌, ◌<◌, ◌≤◌, false, List, Some, Result, length, IfOk, OnOk};
 ghost use Rattle.form_check.specs.Checker.{KeepsDimensions};
-ghost use Rattle.form_check.specs.Checking.{declared, named, kind_declared, dimension as dimension_written, dimension_or as dimension_or_of, index as index_declared, expression, expressions, selection, most_names};
-ghost use Rattle.form_check.specs.Refusal.{Gives, each};
+ghost use Rattle.form_check.specs.Checking.{declared, named, kind_declared, dimension as dimension_written, dimension_or as dimension_or_of, index as index_declared, set as set_declared, set_once, set_with, is_past_limit, expression, expressions, selection, most_names};
+ghost use Rattle.form_check.specs.Refusal.{Refusal, Gives, IsRefused, each};
 ghost use Rattle.form_base.specs.declared.cause.Cause.TheVariants as causes;
-ghost use Rattle.form_names.specs.Names.{Entry, lookup, IsDimension, IsKind};
+ghost use Rattle.form_names.specs.declared.elements.Elements.{Elements};
+ghost use Rattle.form_names.specs.Names.{AreElements, Entry, declare_set as declare_set_of, lookup, IsDimension, IsKind};
 
 use crate::kinds::{found, wrong_kind};
+use crate::sets::elements;
 use crate::{CheckError, IdList, Selection};
-use form_ast::{Declared, Spelled, SpelledIndex};
+use form_ast::{Declared, Spelled, SpelledIndex, WrittenElements};
 use form_base::{Cause, Id, Name};
-use form_names::{DeclareError, Dimension, Kind, Names};
+use form_names::{DeclareError, Dimension, Elements, Kind, Names};
 use std::alloc::{AllocError, Global};
 
 /// How many names may be declared.
@@ -199,6 +201,69 @@ pub fn declare_indices(
         declare_index(alloc, names, default, index)?;
     }
     Ok(())
+}
+
+/// A set with these elements.
+#[tactic(auto, using(crate::proofs::Declaring::set_keeps, crate::proofs::Declaring::set_room))]
+fn declare_elements(
+    alloc: Global,
+    names: &mut Names,
+    spelled: &Spelled,
+    elements: Elements,
+) -> Result<(), CheckError>
+    requires room { length names.old ≤ most_names }
+    requires fits { is_past_limit names.old (lookup names.old spelled.now.name) ≡ false }
+    requires lawful { AreElements names.old elements }
+    ensures declared { Gives (λ _. names.new) result (set_once (declare_set_of names.old spelled.now.name elements) spelled.now) }
+    ensures room { OnOk result (length names.new ≤ most_names) }
+    ensures keeps { OnOk result (KeepsDimensions names.old names.new) }
+{
+    match names.declare_set(copy_of(alloc, spelled)?, elements) {
+        Ok(_) => Ok(()),
+        Err(DeclareError::Redeclared) => Err(redeclared(alloc, spelled)?),
+        Err(DeclareError::Memory) => Err(CheckError::Memory),
+    }
+}
+
+/// A refusal of a set whose elements are refused.
+fn refused_set(
+    alloc: Global,
+    names: &Names,
+    spelled: &Spelled,
+    error: CheckError,
+) -> Result<CheckError, AllocError>
+    ensures { IfOk result (λ e. (es : Result Elements Refusal) → IsRefused error es → IsRefused e (set_with names.now spelled.now (lookup names.now spelled.now.name) es)) }
+{
+    match error {
+        CheckError::Refused(cause, spot) => {
+            if names.lookup(spelled.name.as_str()).is_some() {
+                return redeclared(alloc, spelled);
+            }
+            Ok(CheckError::Refused(cause, spot))
+        }
+        CheckError::Memory => Ok(CheckError::Memory),
+    }
+}
+
+/// Declares a set.
+pub fn declare_set(
+    alloc: Global,
+    names: &mut Names,
+    spelled: &Spelled,
+    written: &WrittenElements,
+) -> Result<(), CheckError>
+    requires room { length names.old ≤ most_names }
+    ensures declared { Gives (λ _. names.new) result (set_declared names.old spelled.now written.now) }
+    ensures room { OnOk result (length names.new ≤ most_names) }
+    ensures keeps { OnOk result (KeepsDimensions names.old names.new) }
+{
+    if names.len() == MOST_NAMES && names.lookup(spelled.name.as_str()).is_none() {
+        return Err(CheckError::Refused(Cause::NumberRange, spelled.spot));
+    }
+    match elements(alloc, names, written) {
+        Ok(elements) => declare_elements(alloc, names, spelled, elements),
+        Err(error) => Err(refused_set(alloc, names, spelled, error)?),
+    }
 }
 
 /// The `Id` of an expression.

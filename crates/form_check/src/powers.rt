@@ -8,6 +8,9 @@ use crate::CheckError;
 use form_ast::{Link, Power, Sign};
 use form_base::Cause;
 
+/// The largest number, 2^127-1.
+pub const LARGEST_NUMBER: u128 = 170_141_183_460_469_231_731_687_303_715_884_105_727;
+
 /// The largest power of a symbol or a dot product, in size.
 pub const LARGEST_EXPONENT: u32 = 1_000_000_000;
 

@@ -1,31 +1,33 @@
 //! Going through the pieces of a right side from the front.
-ghost use Rattle.std.specs.Prelude.{◌≡◌, ◌+◌, ◌<◌, ◌≤◌, ◌^◌, ◌++◌, ◌∷◌, [], OnOk, IfOk, is_some};
+ghost use Rattle.std.specs.Prelude.{◌≡◌, ◌+◌, ◌<◌, ◌≤◌, ◌^◌, ◌++◌, ◌∷◌, [], OnOk, IfOk, Ok, is_some};
 ghost use Rattle.form_check.specs.Marks.{stands_in};
 ghost use Rattle.form_check.specs.Refusal.{Gives, error_of};
-ghost use Rattle.form_check.specs.RightSide.{number as number_of, name as name_of, lone as lone_of, linked as linked_factor, linked_index as linked_index_factor, linked_to, largest_power, wrong, spelled_of, by_kind, symbol as symbol_of, size_alone as size_alone_of};
+ghost use Rattle.form_check.specs.RightSide.{number as number_of, name as name_of, lone as lone_of, linked as linked_factor, linked_index as linked_index_factor, linked_to, largest_power, wrong, spelled_of, by_kind, symbol as symbol_of, size_alone as size_alone_of, number_base as number_base_of, name_base as name_base_of, linked_base as linked_base_of, base_alone, base_by_kind};
 ghost use Rattle.form_check.specs.Walking as walking;
-ghost use Rattle.form_check.specs.Walking.{at, walk_of, adds, may_name, with_factor, misplaced_to_end, is_single as is_single_at};
+ghost use Rattle.form_check.specs.Walking.{at, walk_of, adds, may_name, with_factor, misplaced_to_end, is_single as is_single_at, dot_to};
 ghost use Rattle.form_tree.specs.Tree as tree;
 
 use crate::CheckError;
 use crate::kinds::{
     alone_end, entry_end, found, head, lone, misplaced, vector, wrong_delta, wrong_name,
 };
+use crate::known::Known;
 use crate::powers::{
-    LARGEST_EXPONENT, LARGEST_POWER, exponent, is_inverted, is_over, link_of, number_exponent,
-    size_of,
+    LARGEST_EXPONENT, LARGEST_NUMBER, LARGEST_POWER, exponent, is_inverted, is_over, link_of,
+    number_exponent, size_of,
+};
+use crate::raised::{
+    end_of_function, end_of_parenthesis, exponent_of, linked_base, name_power, number_base, raised,
+    symbol_base, symbol_named,
 };
 use crate::resolved::{End, Found, Head};
 use crate::standing::Standing;
-use form_ast::{Link, Named, Number, Power};
+use form_ast::{Link, Named, Number, Power, Sign};
 use form_base::{Cause, Id};
 use form_names::{Kind, Names};
 use form_term::{Component, Index};
-use form_tree::Piece;
+use form_tree::{Base, Piece};
 use std::alloc::{AllocError, Global};
-
-/// The largest number, 2^127-1.
-const LARGEST_NUMBER: u128 = 170_141_183_460_469_231_731_687_303_715_884_105_727;
 
 /// Where a walk stands.
 #[derive(Clone, Copy)]
@@ -56,7 +58,7 @@ pub struct Walk {
     pieces: Vec<Piece>,
     place: Place,
     /// In the arguments of how many functions it stands.
-    calls: usize,
+    pub calls: usize,
 }
 
 /// Two ends as a factor.
@@ -126,7 +128,7 @@ fn power_of(piece: &form_ast::Piece) -> Option<Power>
 }
 
 /// The power of the factor that ends before these.
-fn power_at(rest: &[form_ast::Piece]) -> Option<Power>
+pub fn power_at(rest: &[form_ast::Piece]) -> Option<Power>
     ensures { result ≡ walking.power_at rest.now }
 {
     match rest {
@@ -136,7 +138,7 @@ fn power_at(rest: &[form_ast::Piece]) -> Option<Power>
 }
 
 /// Whether an argument ends here.
-fn ends_argument(rest: &[form_ast::Piece]) -> bool
+pub fn ends_argument(rest: &[form_ast::Piece]) -> bool
     ensures { result ≡ walking.ends_argument rest.now }
 {
     match rest {
@@ -218,8 +220,22 @@ fn ends_call(piece: &form_ast::Piece) -> bool
     matches!(piece, form_ast::Piece::EndOfCall)
 }
 
+/// The number of a field, where a piece is one.
+fn field_of(known: &Known, piece: &form_ast::Piece) -> Result<Option<u32>, AllocError>
+    ensures { IfOk result (λ number. number ≡ walking.field_of known.now piece.now) }
+{
+    match piece {
+        form_ast::Piece::Field(field) => Ok(Some(known.field(field.name.as_str())?)),
+        _ => Ok(None),
+    }
+}
+
 /// An argument that is a name alone of an index or a vector.
-fn lone_argument(names: &Names, piece: &form_ast::Piece, rest: &[form_ast::Piece]) -> Option<Piece>
+pub fn lone_argument(
+    names: &Names,
+    piece: &form_ast::Piece,
+    rest: &[form_ast::Piece],
+) -> Option<Piece>
     ensures { walking.IsLone result (lone_of names.now (walking.alone_before rest.now piece.now)) }
 {
     if !ends_argument(rest) {
@@ -242,6 +258,17 @@ impl Walk {
         }
     }
 
+    /// The same in an argument, where no expression is named.
+    pub fn inside(pieces: Vec<Piece>) -> Walk
+        ensures { walk_of result ≡ at pieces.items Place.Sum 1 }
+    {
+        Walk {
+            pieces,
+            place: Place::Sum,
+            calls: 1,
+        }
+    }
+
     pub fn into_pieces(self) -> Vec<Piece>
         ensures { result.items ≡ (walk_of self).pieces }
     {
@@ -259,8 +286,51 @@ impl Walk {
         Ok(())
     }
 
+    /// A base that is one piece, to a power that is a name.
+    fn raise(
+        &mut self,
+        alloc: Global,
+        names: &Names,
+        link: Link,
+        base: Base,
+        sign: Option<Sign>,
+        by: &Named,
+    ) -> Result<(), CheckError>
+        ensures gives { Gives (λ _. walk_of self.new) result (adds (walk_of self.old) link (walking.raised names.now (walking.is_over link) (sign, by.now) (Ok (walking.base_of base)))) }
+        ensures calls { OnOk result (self.new.calls ≡ self.old.calls) }
+    {
+        let symbol = symbol_named(alloc, names, by)?;
+        let exponent = exponent_of(is_over(link), sign, symbol);
+        self.add(raised(link_of(link), base, exponent))?;
+        Ok(())
+    }
+
     /// A whole number.
-    fn number(&mut self, link: Link, number: Number, power: Option<Power>) -> Result<(), CheckError>
+    fn number(
+        &mut self,
+        alloc: Global,
+        names: &Names,
+        link: Link,
+        number: Number,
+        rest: &[form_ast::Piece],
+    ) -> Result<(), CheckError>
+        ensures gives { Gives (λ _. walk_of self.new) result (adds (walk_of self.old) link (walking.by_power names.now (walking.is_over link) rest.now (number_base_of number) (number_of (walking.is_over link) number (walking.power_at rest.now)))) }
+        ensures calls { OnOk result (self.new.calls ≡ self.old.calls) }
+    {
+        let Some((sign, by)) = name_power(rest) else {
+            return self.number_to(link, number, power_at(rest));
+        };
+        let base = number_base(number)?;
+        self.raise(alloc, names, link, base, sign, by)
+    }
+
+    /// A whole number to a power that is a number.
+    fn number_to(
+        &mut self,
+        link: Link,
+        number: Number,
+        power: Option<Power>,
+    ) -> Result<(), CheckError>
         ensures gives { Gives (λ _. walk_of self.new) result (adds (walk_of self.old) link (number_of (walking.is_over link) number power)) }
         ensures calls { OnOk result (self.new.calls ≡ self.old.calls) }
     {
@@ -276,13 +346,29 @@ impl Walk {
         Ok(())
     }
 
-    fn symbol(&mut self, link: Link, symbol: Id, power: Option<Power>) -> Result<(), CheckError>
-        ensures gives { Gives (λ _. walk_of self.new) result (adds (walk_of self.old) link (symbol_of (walking.is_over link) symbol power)) }
+    fn symbol(
+        &mut self,
+        known: &Known,
+        link: Link,
+        symbol: Id,
+        power: Option<Power>,
+    ) -> Result<(), CheckError>
+        ensures gives { Gives (λ _. walk_of self.new) result (adds (walk_of self.old) link (symbol_of known.now (walking.is_over link) symbol power)) }
         ensures calls { OnOk result (self.new.calls ≡ self.old.calls) }
     {
         let size = size_of(power, LARGEST_EXPONENT)?;
+        let link_here = link_of(link);
+        if known.is_wildcard(symbol) {
+            self.add(Piece::Wild {
+                link: link_here,
+                symbol,
+                is_over: is_over(link),
+                power: exponent(false, power, size),
+            })?;
+            return Ok(());
+        }
         self.add(Piece::Symbol {
-            link: link_of(link),
+            link: link_here,
             symbol,
             power: exponent(is_over(link), power, size),
         })?;
@@ -330,11 +416,32 @@ impl Walk {
         alloc: Global,
         names: &Names,
         standing: &Standing,
+        known: &Known,
+        link: Link,
+        named: &Named,
+        rest: &[form_ast::Piece],
+    ) -> Result<(), CheckError>
+        ensures gives { Gives (λ _. walk_of self.new) result (adds (walk_of self.old) link (walking.by_power names.now (walking.is_over link) rest.now (name_base_of names.now known.now (walking.is_over link) named.now) (name_of names.now (may_name self.old.calls (stands_in standing.now)) known.now (walking.is_over link) named.now (walking.power_at rest.now)))) }
+        ensures calls { OnOk result (self.new.calls ≡ self.old.calls) }
+    {
+        match name_power(rest) {
+            Some((sign, by)) => self.raise_name(alloc, names, known, link, named, sign, by),
+            None => self.name_to(alloc, names, standing, known, link, named, power_at(rest)),
+        }
+    }
+
+    /// A name alone, to a power that is a number.
+    fn name_to(
+        &mut self,
+        alloc: Global,
+        names: &Names,
+        standing: &Standing,
+        known: &Known,
         link: Link,
         named: &Named,
         power: Option<Power>,
     ) -> Result<(), CheckError>
-        ensures gives { Gives (λ _. walk_of self.new) result (adds (walk_of self.old) link (name_of names.now (may_name self.old.calls (stands_in standing.now)) (walking.is_over link) named.now power)) }
+        ensures gives { Gives (λ _. walk_of self.new) result (adds (walk_of self.old) link (name_of names.now (may_name self.old.calls (stands_in standing.now)) known.now (walking.is_over link) named.now power)) }
         ensures calls { OnOk result (self.new.calls ≡ self.old.calls) }
     {
         let Named::Declared(spelled) = named else {
@@ -346,7 +453,7 @@ impl Walk {
             return Ok(());
         };
         let found = found(alloc, names, spelled)?;
-        self.declared(alloc, standing, link, named, power, found)
+        self.declared(alloc, standing, known, link, named, power, found)
     }
 
     /// A declared name alone.
@@ -354,16 +461,17 @@ impl Walk {
         &mut self,
         alloc: Global,
         standing: &Standing,
+        known: &Known,
         link: Link,
         named: &Named,
         power: Option<Power>,
         found: Found,
     ) -> Result<(), CheckError>
-        ensures gives { Gives (λ _. walk_of self.new) result (adds (walk_of self.old) link (by_kind (may_name self.old.calls (stands_in standing.now)) (walking.is_over link) (spelled_of named.now) power found.id found.kind)) }
+        ensures gives { Gives (λ _. walk_of self.new) result (adds (walk_of self.old) link (by_kind (may_name self.old.calls (stands_in standing.now)) known.now (walking.is_over link) (spelled_of named.now) power found.id found.kind)) }
         ensures calls { OnOk result (self.new.calls ≡ self.old.calls) }
     {
         match found.kind {
-            Kind::Symbol => self.symbol(link, found.id, power),
+            Kind::Symbol => self.symbol(known, link, found.id, power),
             Kind::Function => {
                 let size = self.size_alone(alloc, link, named, power)?;
                 self.function(link, found.id, false, size)?;
@@ -383,7 +491,110 @@ impl Walk {
                 })?;
                 Ok(())
             }
-            Kind::Vector | Kind::Index(_) | Kind::Expression => Err(wrong_name(alloc, named)?),
+            Kind::Vector | Kind::Index(_) | Kind::Expression | Kind::Set => {
+                Err(wrong_name(alloc, named)?)
+            }
+        }
+    }
+
+    /// A function without arguments, to a power that is a name.
+    fn raise_function(
+        &mut self,
+        alloc: Global,
+        names: &Names,
+        link: Link,
+        named: &Named,
+        function: Id,
+        is_commuting: bool,
+        sign: Option<Sign>,
+        by: &Named,
+    ) -> Result<(), CheckError>
+        ensures gives { Gives (λ _. walk_of self.new) result (adds (walk_of self.old) link (walking.raised names.now (walking.is_over link) (sign, by.now) (base_alone (walking.is_over link) (spelled_of named.now) (tree.function_base function is_commuting tree.empty)))) }
+        ensures calls { OnOk result (self.new.calls ≡ self.old.calls) }
+    {
+        if is_over(link) {
+            return Err(wrong_name(alloc, named)?);
+        }
+        let symbol = symbol_named(alloc, names, by)?;
+        let exponent = exponent_of(is_over(link), sign, symbol);
+        self.pieces.extend_from_slice(&[Piece::Function {
+            link: link_of(link),
+            function,
+            is_commuting,
+        }])?;
+        self.add(Piece::EndOfRaisedFunction(exponent))?;
+        Ok(())
+    }
+
+    /// `i_` to a power that is a name.
+    fn raise_imaginary(
+        &mut self,
+        alloc: Global,
+        names: &Names,
+        link: Link,
+        named: &Named,
+        sign: Option<Sign>,
+        by: &Named,
+    ) -> Result<(), CheckError>
+        ensures gives { Gives (λ _. walk_of self.new) result (adds (walk_of self.old) link (walking.raised names.now (walking.is_over link) (sign, by.now) (base_alone (walking.is_over link) (spelled_of named.now) tree.imaginary_base))) }
+        ensures calls { OnOk result (self.new.calls ≡ self.old.calls) }
+    {
+        if is_over(link) {
+            return Err(wrong_name(alloc, named)?);
+        }
+        self.raise(alloc, names, link, Base::Imaginary, sign, by)
+    }
+
+    /// A name alone, to a power that is a name.
+    fn raise_name(
+        &mut self,
+        alloc: Global,
+        names: &Names,
+        known: &Known,
+        link: Link,
+        named: &Named,
+        sign: Option<Sign>,
+        by: &Named,
+    ) -> Result<(), CheckError>
+        ensures gives { Gives (λ _. walk_of self.new) result (adds (walk_of self.old) link (walking.raised names.now (walking.is_over link) (sign, by.now) (name_base_of names.now known.now (walking.is_over link) named.now))) }
+        ensures calls { OnOk result (self.new.calls ≡ self.old.calls) }
+    {
+        let Named::Declared(spelled) = named else {
+            return self.raise_imaginary(alloc, names, link, named, sign, by);
+        };
+        let found = found(alloc, names, spelled)?;
+        self.raise_declared(alloc, names, known, link, named, found, sign, by)
+    }
+
+    /// A declared name alone, to a power that is a name.
+    fn raise_declared(
+        &mut self,
+        alloc: Global,
+        names: &Names,
+        known: &Known,
+        link: Link,
+        named: &Named,
+        found: Found,
+        sign: Option<Sign>,
+        by: &Named,
+    ) -> Result<(), CheckError>
+        ensures gives { Gives (λ _. walk_of self.new) result (adds (walk_of self.old) link (walking.raised names.now (walking.is_over link) (sign, by.now) (base_by_kind known.now (walking.is_over link) (spelled_of named.now) found.id found.kind))) }
+        ensures calls { OnOk result (self.new.calls ≡ self.old.calls) }
+    {
+        match found.kind {
+            Kind::Symbol => {
+                let base = symbol_base(known, found.id);
+                self.raise(alloc, names, link, base, sign, by)
+            }
+            Kind::Function => {
+                self.raise_function(alloc, names, link, named, found.id, false, sign, by)
+            }
+            Kind::CommutingFunction => {
+                self.raise_function(alloc, names, link, named, found.id, true, sign, by)
+            }
+            Kind::Vector | Kind::Index(_) | Kind::Expression | Kind::Set => {
+                Err(wrong_name(alloc, named)?)
+            }
         }
     }
 
@@ -391,16 +602,21 @@ impl Walk {
     fn link_ends(
         &mut self,
         link: Link,
+        alloc: Global,
+        names: &Names,
         a: End,
         b: End,
-        power: Option<Power>,
+        rest: &[form_ast::Piece],
     ) -> Result<(), CheckError>
-        ensures gives { Gives (λ _. walk_of self.new) result (adds (walk_of self.old) link (linked_to a b power)) }
+        ensures gives { Gives (λ _. walk_of self.new) result (adds (walk_of self.old) link (walking.by_power names.now (walking.is_over link) rest.now (Ok (linked_base_of a b)) (linked_to a b (walking.power_at rest.now)))) }
         ensures calls { OnOk result (self.new.calls ≡ self.old.calls) }
     {
-        let size = size_of(power, LARGEST_POWER)?;
-        self.add(linked(link_of(link), a, b, size))?;
-        Ok(())
+        let Some((sign, by)) = name_power(rest) else {
+            let size = size_of(power_at(rest), LARGEST_POWER)?;
+            self.add(linked(link_of(link), a, b, size))?;
+            return Ok(());
+        };
+        self.raise(alloc, names, link, linked_base(a, b), sign, by)
     }
 
     /// A dot product ends.
@@ -420,15 +636,34 @@ impl Walk {
             return Ok(());
         };
         let right = vector(alloc, names, named)?;
-        let power = power_at(rest);
-        let size = size_of(power, LARGEST_EXPONENT)?;
-        self.add(Piece::Dot {
-            link: link_of(link),
-            left,
-            right,
-            power: exponent(is_over(link), power, size),
-        })?;
-        Ok(())
+        self.dot(alloc, names, link, left, right, rest)
+    }
+
+    /// A dot product.
+    fn dot(
+        &mut self,
+        alloc: Global,
+        names: &Names,
+        link: Link,
+        left: Id,
+        right: Id,
+        rest: &[form_ast::Piece],
+    ) -> Result<(), CheckError>
+        ensures gives { Gives (λ _. walk_of self.new) result (adds (walk_of self.old) link (walking.by_power names.now (walking.is_over link) rest.now (Ok (tree.dot_base left right)) (dot_to (walking.is_over link) left right (walking.power_at rest.now)))) }
+        ensures calls { OnOk result (self.new.calls ≡ self.old.calls) }
+    {
+        let Some((sign, by)) = name_power(rest) else {
+            let power = power_at(rest);
+            let size = size_of(power, LARGEST_EXPONENT)?;
+            self.add(Piece::Dot {
+                link: link_of(link),
+                left,
+                right,
+                power: exponent(is_over(link), power, size),
+            })?;
+            return Ok(());
+        };
+        self.raise(alloc, names, link, Base::Dot(left, right), sign, by)
     }
 
     /// The first argument of `d_`.
@@ -469,17 +704,21 @@ impl Walk {
     /// A `d_` ends.
     fn end_delta(
         &mut self,
+        alloc: Global,
+        names: &Names,
         link: Link,
         first: End,
         second: End,
         piece: &form_ast::Piece,
         rest: &[form_ast::Piece],
     ) -> Result<(), CheckError>
-        ensures gives { Gives (λ _. walk_of self.new) result (walking.delta_ended (walk_of self.old) link first second piece.now rest.now) }
+        ensures gives { Gives (λ _. walk_of self.new) result (walking.delta_ended names.now (walk_of self.old) link first second piece.now rest.now) }
         ensures calls { OnOk result (self.new.calls ≡ self.old.calls) }
     {
         match piece {
-            form_ast::Piece::EndOfDelta => self.link_ends(link, first, second, power_at(rest)),
+            form_ast::Piece::EndOfDelta => {
+                self.link_ends(link, alloc, names, first, second, rest)
+            },
             _ => Ok(()),
         }
     }
@@ -487,18 +726,20 @@ impl Walk {
     /// The parentheses of a vector end.
     fn end_component(
         &mut self,
+        alloc: Global,
+        names: &Names,
         link: Link,
         vector: Id,
         index: End,
         piece: &form_ast::Piece,
         rest: &[form_ast::Piece],
     ) -> Result<(), CheckError>
-        ensures gives { Gives (λ _. walk_of self.new) result (walking.component_ended (walk_of self.old) link vector index piece.now rest.now) }
+        ensures gives { Gives (λ _. walk_of self.new) result (walking.component_ended names.now (walk_of self.old) link vector index piece.now rest.now) }
         ensures calls { OnOk result (self.new.calls ≡ self.old.calls) }
     {
         match piece {
             form_ast::Piece::EndOfCall => {
-                self.link_ends(link, End::Vector(vector), index, power_at(rest))
+                self.link_ends(link, alloc, names, End::Vector(vector), index, rest)
             }
             _ => Ok(()),
         }
@@ -560,13 +801,33 @@ impl Walk {
     }
 
     /// The arguments of a function end.
-    fn end_call(&mut self, power: Option<Power>) -> Result<(), CheckError>
-        ensures gives { Gives (λ _. walk_of self.new) result (walking.call_ended (walk_of self.old) power) }
+    fn end_call(
+        &mut self,
+        alloc: Global,
+        names: &Names,
+        rest: &[form_ast::Piece],
+    ) -> Result<(), CheckError>
+        ensures gives { Gives (λ _. walk_of self.new) result (walking.call_ended names.now (walk_of self.old) rest.now) }
         ensures calls { OnOk result (self.new.calls ≤ self.old.calls) }
     {
-        let power = size_of(power, LARGEST_POWER)?;
-        self.add(Piece::EndOfFunction { power })?;
+        let piece = end_of_function(alloc, names, rest)?;
+        self.add(piece)?;
         self.calls = self.calls.saturating_sub(1);
+        Ok(())
+    }
+
+    /// A sum in parentheses ends.
+    fn close(
+        &mut self,
+        alloc: Global,
+        names: &Names,
+        rest: &[form_ast::Piece],
+    ) -> Result<(), CheckError>
+        ensures gives { Gives (λ _. walk_of self.new) result (walking.closed names.now (walk_of self.old) rest.now) }
+        ensures calls { OnOk result (self.new.calls ≡ self.old.calls) }
+    {
+        let piece = end_of_parenthesis(alloc, names, rest)?;
+        self.add(piece)?;
         Ok(())
     }
 
@@ -576,17 +837,20 @@ impl Walk {
         alloc: Global,
         names: &Names,
         standing: &Standing,
+        known: &Known,
         piece: &form_ast::Piece,
         rest: &[form_ast::Piece],
     ) -> Result<(), CheckError>
         requires { self.old.calls + 1 < 2 ^ 64 }
-        ensures gives { Gives (λ _. walk_of self.new) result (walking.in_sum names.now (stands_in standing.now) (walk_of self.old) piece.now rest.now) }
+        ensures gives { Gives (λ _. walk_of self.new) result (walking.in_sum names.now (stands_in standing.now) known.now (walk_of self.old) piece.now rest.now) }
         ensures calls { OnOk result (self.new.calls ≤ self.old.calls + 1) }
     {
         match piece {
-            form_ast::Piece::Number(link, number) => self.number(*link, *number, power_at(rest)),
+            form_ast::Piece::Number(link, number) => {
+                self.number(alloc, names, *link, *number, rest)
+            }
             form_ast::Piece::Name(link, named) => {
-                self.name(alloc, names, standing, *link, named, power_at(rest))
+                self.name(alloc, names, standing, known, *link, named, rest)
             }
             form_ast::Piece::Dot(link, named) => {
                 self.place = Place::Dot(*link, vector(alloc, names, named)?);
@@ -604,7 +868,7 @@ impl Walk {
             }
             form_ast::Piece::EndOfCall => {
                 self.pieces.extend_from_slice(&[Piece::EndOfArgument])?;
-                self.end_call(power_at(rest))
+                self.end_call(alloc, names, rest)
             }
             form_ast::Piece::Open(link) => {
                 self.add(Piece::Open {
@@ -612,16 +876,15 @@ impl Walk {
                 })?;
                 Ok(())
             }
-            form_ast::Piece::Close => {
-                let power = size_of(power_at(rest), LARGEST_POWER)?;
-                self.add(Piece::Close { power })?;
-                Ok(())
-            }
+            form_ast::Piece::Close => self.close(alloc, names, rest),
             form_ast::Piece::EndOfDot(_)
             | form_ast::Piece::EntryName(_)
             | form_ast::Piece::EntryNumber(_)
             | form_ast::Piece::EndOfDelta
-            | form_ast::Piece::Raised(_, _, _) => Ok(()),
+            | form_ast::Piece::Raised(_, _, _)
+            | form_ast::Piece::RaisedByName(_, _)
+            | form_ast::Piece::Marked(_)
+            | form_ast::Piece::Field(_) => Ok(()),
         }
     }
 
@@ -631,17 +894,25 @@ impl Walk {
         alloc: Global,
         names: &Names,
         standing: &Standing,
+        known: &Known,
         piece: &form_ast::Piece,
         rest: &[form_ast::Piece],
     ) -> Result<(), CheckError>
         requires { self.old.calls + 1 < 2 ^ 64 }
-        ensures gives { Gives (λ _. walk_of self.new) result (walking.in_arguments names.now (stands_in standing.now) (walk_of self.old) piece.now rest.now) }
+        ensures gives { Gives (λ _. walk_of self.new) result (walking.in_arguments names.now (stands_in standing.now) known.now (walk_of self.old) piece.now rest.now) }
         ensures calls { OnOk result (self.new.calls ≤ self.old.calls + 1) }
     {
         if ends_call(piece) {
-            return self.end_call(power_at(rest));
+            return self.end_call(alloc, names, rest);
         }
-        self.begin_argument(alloc, names, standing, piece, rest)
+        match field_of(known, piece)? {
+            Some(number) => {
+                self.pieces.extend_from_slice(&[Piece::Field(number)])?;
+                self.place = Place::Behind;
+                Ok(())
+            }
+            None => self.begin_argument(alloc, names, standing, known, piece, rest),
+        }
     }
 
     /// A piece where an argument begins.
@@ -650,11 +921,12 @@ impl Walk {
         alloc: Global,
         names: &Names,
         standing: &Standing,
+        known: &Known,
         piece: &form_ast::Piece,
         rest: &[form_ast::Piece],
     ) -> Result<(), CheckError>
         requires { self.old.calls + 1 < 2 ^ 64 }
-        ensures gives { Gives (λ _. walk_of self.new) result (walking.argument_begun names.now (stands_in standing.now) (walk_of self.old) piece.now rest.now (lone_of names.now (walking.alone_before rest.now piece.now))) }
+        ensures gives { Gives (λ _. walk_of self.new) result (walking.argument_begun names.now (stands_in standing.now) known.now (walk_of self.old) piece.now rest.now (lone_of names.now (walking.alone_before rest.now piece.now))) }
         ensures calls { OnOk result (self.new.calls ≤ self.old.calls + 1) }
     {
         match lone_argument(names, piece, rest) {
@@ -665,7 +937,7 @@ impl Walk {
             }
             None => {
                 self.add(Piece::Argument)?;
-                self.in_sum(alloc, names, standing, piece, rest)
+                self.in_sum(alloc, names, standing, known, piece, rest)
             }
         }
     }
@@ -673,10 +945,12 @@ impl Walk {
     /// A piece behind an argument that is an index or a vector alone.
     fn behind(
         &mut self,
+        alloc: Global,
+        names: &Names,
         piece: &form_ast::Piece,
         rest: &[form_ast::Piece],
     ) -> Result<(), CheckError>
-        ensures gives { Gives (λ _. walk_of self.new) result (walking.behind_argument (walk_of self.old) piece.now rest.now) }
+        ensures gives { Gives (λ _. walk_of self.new) result (walking.behind_argument names.now (walk_of self.old) piece.now rest.now) }
         ensures calls { OnOk result (self.new.calls ≤ self.old.calls) }
     {
         match piece {
@@ -684,7 +958,7 @@ impl Walk {
                 self.place = Place::Argument;
                 Ok(())
             }
-            form_ast::Piece::EndOfCall => self.end_call(power_at(rest)),
+            form_ast::Piece::EndOfCall => self.end_call(alloc, names, rest),
             _ => Ok(()),
         }
     }
@@ -695,14 +969,15 @@ impl Walk {
         alloc: Global,
         names: &Names,
         standing: &Standing,
+        known: &Known,
         piece: &form_ast::Piece,
         rest: &[form_ast::Piece],
     ) -> Result<(), CheckError>
         requires { self.old.calls + 1 < 2 ^ 64 }
-        ensures gives { Gives (λ _. walk_of self.new) result (walking.taken names.now (stands_in standing.now) (walk_of self.old) piece.now rest.now) }
+        ensures gives { Gives (λ _. walk_of self.new) result (walking.taken names.now (stands_in standing.now) known.now (walk_of self.old) piece.now rest.now) }
         ensures calls { OnOk result (self.new.calls ≤ self.old.calls + 1) }
     {
-        self.take_at(self.place, alloc, names, standing, piece, rest)
+        self.take_at(self.place, alloc, names, standing, known, piece, rest)
     }
 
     /// The same where it stands there.
@@ -712,28 +987,29 @@ impl Walk {
         alloc: Global,
         names: &Names,
         standing: &Standing,
+        known: &Known,
         piece: &form_ast::Piece,
         rest: &[form_ast::Piece],
     ) -> Result<(), CheckError>
         requires { self.old.calls + 1 < 2 ^ 64 }
-        ensures gives { Gives (λ _. walk_of self.new) result (walking.taken_at names.now (stands_in standing.now) (walk_of self.old) piece.now rest.now place) }
+        ensures gives { Gives (λ _. walk_of self.new) result (walking.taken_at names.now (stands_in standing.now) known.now (walk_of self.old) piece.now rest.now place) }
         ensures calls { OnOk result (self.new.calls ≤ self.old.calls + 1) }
     {
         match place {
-            Place::Sum => self.in_sum(alloc, names, standing, piece, rest),
-            Place::Argument => self.in_arguments(alloc, names, standing, piece, rest),
-            Place::Behind => self.behind(piece, rest),
+            Place::Sum => self.in_sum(alloc, names, standing, known, piece, rest),
+            Place::Argument => self.in_arguments(alloc, names, standing, known, piece, rest),
+            Place::Behind => self.behind(alloc, names, piece, rest),
             Place::Dot(link, left) => self.end_dot(alloc, names, link, left, piece, rest),
             Place::Delta(link) => self.first_entry(alloc, names, link, piece),
             Place::SecondEntry(link, first) => {
                 self.second_entry(alloc, names, link, first, piece)
             }
             Place::EndOfDelta(link, first, second) => {
-                self.end_delta(link, first, second, piece, rest)
+                self.end_delta(alloc, names, link, first, second, piece, rest)
             }
             Place::Vector(link, vector) => self.component(alloc, names, link, vector, piece),
             Place::Component(link, vector, index) => {
-                self.end_component(link, vector, index, piece, rest)
+                self.end_component(alloc, names, link, vector, index, piece, rest)
             }
         }
     }

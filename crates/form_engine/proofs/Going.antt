@@ -12,12 +12,12 @@ use Rattle.form_outside.specs.declared.sink.SinkErr.{SinkErr}
 use Rattle.form_outside.proofs.Written.{Takes_then, Takes_nothing, Takes_front}
 use Rattle.form_names.specs.Names.{Entry}
 use Rattle.form_check.specs.declared.checked.Checked.{Checked}
-use Rattle.form_check.specs.declared.checked.Checked.TheVariants.{Drop, Skip, Local, Print}
+use Rattle.form_check.specs.declared.checked.Checked.TheVariants.{Drop, Skip, Local, Rewrite, Print}
 use Rattle.form_check.specs.Program.{Program}
-use Rattle.form_check.specs.Sound.{IsSound, AreModulesSound, IsStatementSound}
+use Rattle.form_check.specs.Sound.{IsSound, AreModulesSound, IsFixedSound, IsStatementSound}
 use Rattle.form_check.specs.Standing.{stands}
 use Rattle.form_expand.specs.declared.stored.Stored.{Stored}
-use Rattle.form_module.specs.Module.{HasTree, HaveTrees, IsModuleOutcome, Refusal}
+use Rattle.form_module.specs.Module.{HasArgument, HasTree, HaveTrees, IsModuleOutcome, Refusal}
 use Rattle.form_print.specs.Printing.{name_of}
 use Rattle.form_base.specs.declared.cause.Cause.{Cause}
 use Rattle.form_module.specs.declared.error.ModuleError as module_error
@@ -33,6 +33,8 @@ has_tree : (names : List Entry) (s : ℕ → Bool) (statement : Checked) → IsS
 has_tree names s (Drop which) sound = tt
 has_tree names s (Skip which) sound = tt
 has_tree names s (Local id right) sound = (sound.1.tree, sound.1.pieces)
+has_tree names s (Rewrite is_also r) sound =
+    ((sound.pattern.tree, sound.pattern.pieces), All-weaker (IsFixedSound names) HasArgument (λ list h. (h.tree, h.pieces)) r.pattern.fixed sound.pattern.fixed, (sound.right.tree, sound.right.pieces))
 has_tree names s (Print which) sound = tt
 
 modules_have : (names : List Entry) (earlier modules : List (List Checked)) → AreModulesSound names earlier modules → AllByRecursion HaveTrees modules

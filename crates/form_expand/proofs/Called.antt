@@ -1,6 +1,6 @@
 -- Factors that are one piece or a function, and the arguments of functions.
-use Rattle.std.proofs.Common.{◌≡◌, ℕ, ◌+◌, ◌-◌, ◌<◌, ◌≤◌, Bool, true, false, List, [], ◌∷◌, ◌++◌, length, take, drop, refl, sym, ap, subst, ◌∙◌, arith, append-nil}
-use Rattle.std.specs.Prelude.{Option, Some, None, Result, Ok, Err, IfOk, ◌==◌}
+use Rattle.std.proofs.Common.{◌≡◌, ℕ, ◌+◌, ◌-◌, ◌<◌, Bool, true, false, List, [], ◌∷◌, ◌++◌, length, take, drop, refl, sym, ap, subst, ◌∙◌, arith, append-nil}
+use Rattle.std.specs.Prelude.{Some, None, Result, Ok, Err, IfOk, ◌==◌}
 use Rattle.std.specs.Global.{Vec}
 use Rattle.std.proofs.lemmas.Option.{same_Some}
 use Rattle.std.proofs.lemmas.Grind.{flat_map-append}
@@ -11,29 +11,25 @@ use Rattle.form_term.specs.declared.monomial.Monomial.{Monomial}
 use Rattle.form_term.specs.declared.piece.Piece as kept
 use Rattle.form_term.specs.Calls.{call as call_from}
 use Rattle.form_term.specs.Monomial.{summands_of}
-use Rattle.form_term.specs.Term.{Term, Call, Argument, index, vector, expression, pieces_of_argument, pieces_of_arguments}
-use Rattle.form_normal.specs.Product.{product}
-use Rattle.form_normal.specs.declared.products.ProductError.{ProductError}
-use Rattle.form_normal.specs.declared.products.ProductError.TheVariants.{Refused, Memory}
-use Rattle.form_collect.specs.Collecting.{collected}
+use Rattle.form_term.specs.Term.{Call, Argument, index, vector, expression, pieces_of_argument, pieces_of_arguments}
 use Rattle.form_collect.specs.Collector.{IsCollectionOf}
 use Rattle.form_collect.specs.declared.collector.Collector.{Collector}
 use Rattle.form_tree.specs.declared.tree.Link.{Link}
 use Rattle.form_tree.specs.declared.tree.Piece.{Piece}
 use Rattle.form_tree.specs.declared.tree.Piece.TheVariants as pieces
 use Rattle.form_expand.specs.declared.function.Read.{Read}
-use Rattle.form_expand.specs.declared.function.Read.TheVariants as reads
 use Rattle.form_expand.specs.declared.refusal.Refusal.{Refusal}
-use Rattle.form_expand.specs.declared.stored.Stored.{Stored}
+use Rattle.form_expand.specs.declared.ended.Ended.{Ended}
+use Rattle.form_expand.specs.Bound.{wild_list, exponent_in, list_of_base}
+use Rattle.form_expand.specs.Meanings.{Meanings, terms_of, index_of, vector_of, component_of, field_of}
 use Rattle.form_expand.specs.Calls.{called, IsFurther, Leads, ReadsArgument, ReadsExpression, IsCollected, IsCollectedFrom}
 use Rattle.form_expand.specs.Closings.{closing_at}
-use Rattle.form_expand.specs.Listing.{Listing, nothing, single, refusal, before, followed, followed_at, powers}
+use Rattle.form_expand.specs.Listing.{Listing, nothing, refusal, before, followed, followed_at, powers}
 use Rattle.form_expand.specs.Numbers.{number_list, symbol_list}
 use Rattle.form_expand.specs.Pieces.{list_of_piece}
 use Rattle.form_expand.specs.Readers.{in_product, joined, list_of_calling}
-use Rattle.form_expand.specs.Reading.{Calling, Frame, in_sum, in_function, fresh, fed, read_from, list_of_pieces}
-use Rattle.form_expand.specs.Singles.{of_product, once, alone, list_of_call, argument_of, imaginary_list, dot_list, component_list, delta_list, with_argument, ListsProduct}
-use Rattle.form_expand.specs.Stored.{terms_of}
+use Rattle.form_expand.specs.Reading.{Calling, in_sum, in_function, fresh, fed, read_from, list_of_pieces}
+use Rattle.form_expand.specs.Singles.{list_of_call, argument_of, imaginary_list, dot_list, component_list, delta_list, one_argument, with_arguments}
 use Rattle.form_expand.specs.Walks.{all_of}
 use Rattle.form_expand.proofs.Behind.{refused_stays}
 use Rattle.form_expand.proofs.Listings.{followed_last, taken_on}
@@ -41,29 +37,36 @@ use Rattle.form_expand.proofs.Parenthesized.{read_ended}
 
 -- A factor that is one piece.
 
-pub piece_alone : (all : List Stored) (piece : Piece) (l : Listing) (power : ℕ) → list_of_piece all piece ≡ Some (l, power) → (max : ℕ) (m : Bool) (old : List Listing) (more : List Piece)
+pub piece_alone : (all : Meanings) (piece : Piece) (l : Listing) (power : ℕ) → list_of_piece all piece ≡ Some (l, power) → (max : ℕ) (m : Bool) (old : List Listing) (more : List Piece)
     → read_from all (in_product max m old) (joined piece ∷ more) ≡ read_from all (in_product max m (old ++ powers max l power ∷ [])) more
 unfolding read_from fed
 piece_alone all (pieces.Number link value n) l power e max m old more = ap (λ (q : Listing × ℕ). read_from all (in_product max m (old ++ powers max q.0 q.1 ∷ [])) more) (same_Some (number_list value n, 1) (l, power) e)
 piece_alone all (pieces.Symbol link symbol n) l power e max m old more = ap (λ (q : Listing × ℕ). read_from all (in_product max m (old ++ powers max q.0 q.1 ∷ [])) more) (same_Some (symbol_list symbol n, 1) (l, power) e)
+piece_alone all (pieces.Wild link symbol is_over n) l power e max m old more = ap (λ (q : Listing × ℕ). read_from all (in_product max m (old ++ powers max q.0 q.1 ∷ [])) more) (same_Some (wild_list all symbol is_over n) (l, power) e)
+piece_alone all (pieces.Raised link base by) l power e max m old more = ap (λ (q : Listing × ℕ). read_from all (in_product max m (old ++ powers max q.0 q.1 ∷ [])) more) (same_Some (list_of_base all base by.is_over (exponent_in all by.is_minus by.symbol)) (l, power) e)
 piece_alone all (pieces.Stored link position n) l power e max m old more = ap (λ (q : Listing × ℕ). read_from all (in_product max m (old ++ powers max q.0 q.1 ∷ [])) more) (same_Some (record { terms = terms_of all position; end = None }, n) (l, power) e)
 piece_alone all (pieces.Imaginary link n) l power e max m old more = ap (λ (q : Listing × ℕ). read_from all (in_product max m (old ++ powers max q.0 q.1 ∷ [])) more) (same_Some (imaginary_list, n) (l, power) e)
-piece_alone all (pieces.Dot link p q n) l power e max m old more = ap (λ (q : Listing × ℕ). read_from all (in_product max m (old ++ powers max q.0 q.1 ∷ [])) more) (same_Some (dot_list p q n, 1) (l, power) e)
-piece_alone all (pieces.Component link c n) l power e max m old more = ap (λ (q : Listing × ℕ). read_from all (in_product max m (old ++ powers max q.0 q.1 ∷ [])) more) (same_Some (component_list c, n) (l, power) e)
-piece_alone all (pieces.Delta link i j n) l power e max m old more = ap (λ (q : Listing × ℕ). read_from all (in_product max m (old ++ powers max q.0 q.1 ∷ [])) more) (same_Some (delta_list i j, n) (l, power) e)
+piece_alone all (pieces.Dot link p q n) l power e max m old more = ap (λ (q : Listing × ℕ). read_from all (in_product max m (old ++ powers max q.0 q.1 ∷ [])) more) (same_Some (dot_list (vector_of all p) (vector_of all q) n, 1) (l, power) e)
+piece_alone all (pieces.Component link c n) l power e max m old more = ap (λ (q : Listing × ℕ). read_from all (in_product max m (old ++ powers max q.0 q.1 ∷ [])) more) (same_Some (component_list (component_of all c), n) (l, power) e)
+piece_alone all (pieces.Delta link i j n) l power e max m old more = ap (λ (q : Listing × ℕ). read_from all (in_product max m (old ++ powers max q.0 q.1 ∷ [])) more) (same_Some (delta_list (index_of all i) (index_of all j), n) (l, power) e)
 piece_alone all (pieces.Function link f is_commuting) l power e max m old more = absurd (cc)
 piece_alone all (pieces.EndOfFunction n) l power e max m old more = absurd (cc)
+piece_alone all (pieces.EndOfRaisedFunction by) l power e max m old more = absurd (cc)
+piece_alone all (pieces.Field w) l power e max m old more = absurd (cc)
 piece_alone all (pieces.Index i) l power e max m old more = absurd (cc)
 piece_alone all (pieces.Vector v) l power e max m old more = absurd (cc)
 piece_alone all pieces.Argument l power e max m old more = absurd (cc)
 piece_alone all pieces.EndOfArgument l power e max m old more = absurd (cc)
 piece_alone all (pieces.Open link) l power e max m old more = absurd (cc)
 piece_alone all (pieces.Close n) l power e max m old more = absurd (cc)
+piece_alone all (pieces.CloseRaised by) l power e max m old more = absurd (cc)
 
 -- what begins within a product, or among arguments
 abbrev pub opens : Piece → Bool
 opens (pieces.Number link value power) = false
 opens (pieces.Symbol link symbol power) = false
+opens (pieces.Wild link symbol is_over power) = false
+opens (pieces.Raised link base by) = false
 opens (pieces.Stored link position power) = false
 opens (pieces.Imaginary link power) = false
 opens (pieces.Dot link p q power) = false
@@ -71,16 +74,21 @@ opens (pieces.Component link c power) = false
 opens (pieces.Delta link i j power) = false
 opens (pieces.Function link f is_commuting) = true
 opens (pieces.EndOfFunction power) = false
+opens (pieces.EndOfRaisedFunction by) = false
+opens (pieces.Field w) = false
 opens (pieces.Index i) = false
 opens (pieces.Vector v) = false
 opens pieces.Argument = true
 opens pieces.EndOfArgument = false
 opens (pieces.Open link) = true
 opens (pieces.Close power) = false
+opens (pieces.CloseRaised by) = false
 
 pub none_opened : (piece : Piece) → ((link : Link) (f : ℕ) (is_commuting : Bool) → piece ≡ pieces.Function link f is_commuting → ⊥) → (piece ≡ pieces.Argument → ⊥) → ((link : Link) → piece ≡ pieces.Open link → ⊥) → opens piece ≡ false
 none_opened (pieces.Number link value power) no_function no_argument no_open = refl
 none_opened (pieces.Symbol link symbol power) no_function no_argument no_open = refl
+none_opened (pieces.Wild link symbol is_over power) no_function no_argument no_open = refl
+none_opened (pieces.Raised link base by) no_function no_argument no_open = refl
 none_opened (pieces.Stored link position power) no_function no_argument no_open = refl
 none_opened (pieces.Imaginary link power) no_function no_argument no_open = refl
 none_opened (pieces.Dot link p q power) no_function no_argument no_open = refl
@@ -88,19 +96,24 @@ none_opened (pieces.Component link c power) no_function no_argument no_open = re
 none_opened (pieces.Delta link i j power) no_function no_argument no_open = refl
 none_opened (pieces.Function link f is_commuting) no_function no_argument no_open = absurd (no_function link f is_commuting refl)
 none_opened (pieces.EndOfFunction power) no_function no_argument no_open = refl
+none_opened (pieces.EndOfRaisedFunction by) no_function no_argument no_open = refl
+none_opened (pieces.Field w) no_function no_argument no_open = refl
 none_opened (pieces.Index i) no_function no_argument no_open = refl
 none_opened (pieces.Vector v) no_function no_argument no_open = refl
 none_opened pieces.Argument no_function no_argument no_open = absurd (no_argument refl)
 none_opened pieces.EndOfArgument no_function no_argument no_open = refl
 none_opened (pieces.Open link) no_function no_argument no_open = absurd (no_open link refl)
 none_opened (pieces.Close power) no_function no_argument no_open = refl
+none_opened (pieces.CloseRaised by) no_function no_argument no_open = refl
 
 -- a piece that is no factor is passed over in a product
-pub piece_passed : (all : List Stored) (piece : Piece) → list_of_piece all piece ≡ None → opens piece ≡ false → (max : ℕ) (m : Bool) (old : List Listing) (more : List Piece)
+pub piece_passed : (all : Meanings) (piece : Piece) → list_of_piece all piece ≡ None → opens piece ≡ false → (max : ℕ) (m : Bool) (old : List Listing) (more : List Piece)
     → read_from all (in_product max m old) (joined piece ∷ more) ≡ read_from all (in_product max m old) more
 unfolding read_from fed
 piece_passed all (pieces.Number link value power) none shut max m old more = absurd (cc)
 piece_passed all (pieces.Symbol link symbol power) none shut max m old more = absurd (cc)
+piece_passed all (pieces.Wild link symbol is_over power) none shut max m old more = absurd (cc)
+piece_passed all (pieces.Raised link base by) none shut max m old more = absurd (cc)
 piece_passed all (pieces.Stored link position power) none shut max m old more = absurd (cc)
 piece_passed all (pieces.Imaginary link power) none shut max m old more = absurd (cc)
 piece_passed all (pieces.Dot link p q power) none shut max m old more = absurd (cc)
@@ -108,18 +121,23 @@ piece_passed all (pieces.Component link c power) none shut max m old more = absu
 piece_passed all (pieces.Delta link i j power) none shut max m old more = absurd (cc)
 piece_passed all (pieces.Function link f is_commuting) none shut max m old more = absurd (cc)
 piece_passed all (pieces.EndOfFunction power) none shut max m old more = refl
+piece_passed all (pieces.EndOfRaisedFunction by) none shut max m old more = refl
+piece_passed all (pieces.Field w) none shut max m old more = refl
 piece_passed all (pieces.Index i) none shut max m old more = refl
 piece_passed all (pieces.Vector v) none shut max m old more = refl
 piece_passed all pieces.Argument none shut max m old more = absurd (cc)
 piece_passed all pieces.EndOfArgument none shut max m old more = refl
 piece_passed all (pieces.Open link) none shut max m old more = absurd (cc)
 piece_passed all (pieces.Close power) none shut max m old more = refl
+piece_passed all (pieces.CloseRaised by) none shut max m old more = refl
 
 -- Among the arguments of a function.
 
 abbrev pub is_argument : Piece → Bool
 is_argument (pieces.Number link value power) = false
 is_argument (pieces.Symbol link symbol power) = false
+is_argument (pieces.Wild link symbol is_over power) = false
+is_argument (pieces.Raised link base by) = false
 is_argument (pieces.Stored link position power) = false
 is_argument (pieces.Imaginary link power) = false
 is_argument (pieces.Dot link p q power) = false
@@ -127,35 +145,45 @@ is_argument (pieces.Component link c power) = false
 is_argument (pieces.Delta link i j power) = false
 is_argument (pieces.Function link f is_commuting) = false
 is_argument (pieces.EndOfFunction power) = false
+is_argument (pieces.EndOfRaisedFunction by) = false
+is_argument (pieces.Field w) = true
 is_argument (pieces.Index i) = true
 is_argument (pieces.Vector v) = true
 is_argument pieces.Argument = false
 is_argument pieces.EndOfArgument = false
 is_argument (pieces.Open link) = false
 is_argument (pieces.Close power) = false
+is_argument (pieces.CloseRaised by) = false
 
-pub none_argued : (piece : Piece) → ((i : Index) → piece ≡ pieces.Index i → ⊥) → ((v : ℕ) → piece ≡ pieces.Vector v → ⊥) → is_argument piece ≡ false
-none_argued (pieces.Number link value power) no_index no_vector = refl
-none_argued (pieces.Symbol link symbol power) no_index no_vector = refl
-none_argued (pieces.Stored link position power) no_index no_vector = refl
-none_argued (pieces.Imaginary link power) no_index no_vector = refl
-none_argued (pieces.Dot link p q power) no_index no_vector = refl
-none_argued (pieces.Component link c power) no_index no_vector = refl
-none_argued (pieces.Delta link i j power) no_index no_vector = refl
-none_argued (pieces.Function link f is_commuting) no_index no_vector = refl
-none_argued (pieces.EndOfFunction power) no_index no_vector = refl
-none_argued (pieces.Index i) no_index no_vector = absurd (no_index i refl)
-none_argued (pieces.Vector v) no_index no_vector = absurd (no_vector v refl)
-none_argued pieces.Argument no_index no_vector = refl
-none_argued pieces.EndOfArgument no_index no_vector = refl
-none_argued (pieces.Open link) no_index no_vector = refl
-none_argued (pieces.Close power) no_index no_vector = refl
+pub none_argued : (piece : Piece) → ((i : Index) → piece ≡ pieces.Index i → ⊥) → ((v : ℕ) → piece ≡ pieces.Vector v → ⊥) → ((w : ℕ) → piece ≡ pieces.Field w → ⊥) → is_argument piece ≡ false
+none_argued (pieces.Number link value power) no_index no_vector no_field = refl
+none_argued (pieces.Symbol link symbol power) no_index no_vector no_field = refl
+none_argued (pieces.Wild link symbol is_over power) no_index no_vector no_field = refl
+none_argued (pieces.Raised link base by) no_index no_vector no_field = refl
+none_argued (pieces.Stored link position power) no_index no_vector no_field = refl
+none_argued (pieces.Imaginary link power) no_index no_vector no_field = refl
+none_argued (pieces.Dot link p q power) no_index no_vector no_field = refl
+none_argued (pieces.Component link c power) no_index no_vector no_field = refl
+none_argued (pieces.Delta link i j power) no_index no_vector no_field = refl
+none_argued (pieces.Function link f is_commuting) no_index no_vector no_field = refl
+none_argued (pieces.EndOfFunction power) no_index no_vector no_field = refl
+none_argued (pieces.EndOfRaisedFunction by) no_index no_vector no_field = refl
+none_argued (pieces.Field w) no_index no_vector no_field = absurd (no_field w refl)
+none_argued (pieces.Index i) no_index no_vector no_field = absurd (no_index i refl)
+none_argued (pieces.Vector v) no_index no_vector no_field = absurd (no_vector v refl)
+none_argued pieces.Argument no_index no_vector no_field = refl
+none_argued pieces.EndOfArgument no_index no_vector no_field = refl
+none_argued (pieces.Open link) no_index no_vector no_field = refl
+none_argued (pieces.Close power) no_index no_vector no_field = refl
+none_argued (pieces.CloseRaised by) no_index no_vector no_field = refl
 
 -- a piece that is no argument is passed over
-pub argument_passed : (all : List Stored) (k : Calling) (piece : Piece) (more : List Piece) → opens piece ≡ false → is_argument piece ≡ false → list_of_calling all k (piece ∷ more) ≡ list_of_calling all k more
+pub argument_passed : (all : Meanings) (k : Calling) (piece : Piece) (more : List Piece) → opens piece ≡ false → is_argument piece ≡ false → list_of_calling all k (piece ∷ more) ≡ list_of_calling all k more
 unfolding read_from fed
 argument_passed all k (pieces.Number link value power) more shut other = refl
 argument_passed all k (pieces.Symbol link symbol power) more shut other = refl
+argument_passed all k (pieces.Wild link symbol is_over power) more shut other = refl
+argument_passed all k (pieces.Raised link base by) more shut other = refl
 argument_passed all k (pieces.Stored link position power) more shut other = refl
 argument_passed all k (pieces.Imaginary link power) more shut other = refl
 argument_passed all k (pieces.Dot link p q power) more shut other = refl
@@ -163,19 +191,24 @@ argument_passed all k (pieces.Component link c power) more shut other = refl
 argument_passed all k (pieces.Delta link i j power) more shut other = refl
 argument_passed all k (pieces.Function link f is_commuting) more shut other = absurd (cc)
 argument_passed all k (pieces.EndOfFunction power) more shut other = refl
+argument_passed all k (pieces.EndOfRaisedFunction by) more shut other = refl
+argument_passed all k (pieces.Field w) more shut other = absurd (cc)
 argument_passed all k (pieces.Index i) more shut other = absurd (cc)
 argument_passed all k (pieces.Vector v) more shut other = absurd (cc)
 argument_passed all k pieces.Argument more shut other = absurd (cc)
 argument_passed all k pieces.EndOfArgument more shut other = refl
 argument_passed all k (pieces.Open link) more shut other = absurd (cc)
 argument_passed all k (pieces.Close power) more shut other = refl
+argument_passed all k (pieces.CloseRaised by) more shut other = refl
 
 -- an expression begins
-pub argument_opens : (all : List Stored) (k : Calling) (piece : Piece) (more : List Piece) → opens piece ≡ true
+pub argument_opens : (all : Meanings) (k : Calling) (piece : Piece) (more : List Piece) → opens piece ≡ true
     → list_of_calling all k (piece ∷ more) ≡ read_from all (record { top = in_sum (fresh k.max); outer = in_function k ∷ [] }) more
 unfolding read_from fed
 argument_opens all k (pieces.Number link value power) more e = absurd (cc)
 argument_opens all k (pieces.Symbol link symbol power) more e = absurd (cc)
+argument_opens all k (pieces.Wild link symbol is_over power) more e = absurd (cc)
+argument_opens all k (pieces.Raised link base by) more e = absurd (cc)
 argument_opens all k (pieces.Stored link position power) more e = absurd (cc)
 argument_opens all k (pieces.Imaginary link power) more e = absurd (cc)
 argument_opens all k (pieces.Dot link p q power) more e = absurd (cc)
@@ -183,14 +216,22 @@ argument_opens all k (pieces.Component link c power) more e = absurd (cc)
 argument_opens all k (pieces.Delta link i j power) more e = absurd (cc)
 argument_opens all k (pieces.Function link f is_commuting) more e = refl
 argument_opens all k (pieces.EndOfFunction power) more e = absurd (cc)
+argument_opens all k (pieces.EndOfRaisedFunction by) more e = absurd (cc)
+argument_opens all k (pieces.Field w) more e = absurd (cc)
 argument_opens all k (pieces.Index i) more e = absurd (cc)
 argument_opens all k (pieces.Vector v) more e = absurd (cc)
 argument_opens all k pieces.Argument more e = refl
 argument_opens all k pieces.EndOfArgument more e = absurd (cc)
 argument_opens all k (pieces.Open link) more e = refl
 argument_opens all k (pieces.Close power) more e = absurd (cc)
+argument_opens all k (pieces.CloseRaised by) more e = absurd (cc)
 
--- the pieces of one argument more
+-- the pieces of arguments more, and of one
+arguments_more : (old new : List kept.Piece) (args more : List Argument) → old ≡ pieces_of_arguments args → new ≡ old ++ pieces_of_arguments more → new ≡ pieces_of_arguments (args ++ more)
+arguments_more old new args more e f =
+    f ∙ ap (λ ps. ps ++ pieces_of_arguments more) e
+    ∙ sym (flat_map-append pieces_of_argument args more)
+
 pub one_argument_more : (old new : List kept.Piece) (args : List Argument) (a : Argument) → old ≡ pieces_of_arguments args → new ≡ old ++ pieces_of_argument a → new ≡ pieces_of_arguments (args ++ a ∷ [])
 one_argument_more old new args a e f =
     f ∙ ap (λ ps. ps ++ pieces_of_argument a) e
@@ -198,43 +239,51 @@ one_argument_more old new args a e f =
     ∙ sym (flat_map-append pieces_of_argument args (a ∷ []))
 
 -- the same list leads to the same
-pub leads_from : (max : ℕ) (all : List Stored) (list same : Listing) (f : ℕ) (is_commuting : Bool) (read : Read) → list ≡ same → Leads max all same f is_commuting read → Leads max all list f is_commuting read
+pub leads_from : (max : ℕ) (all : Meanings) (list same : Listing) (f : ℕ) (is_commuting : Bool) (read : Read) → list ≡ same → Leads max all same f is_commuting read → Leads max all list f is_commuting read
 leads_from max all list same f is_commuting read e h = subst (λ (l : Listing). Leads max all l f is_commuting read) (sym e) h
 
-module _ (max : ℕ) (all : List Stored) (f : ℕ) (is_commuting : Bool) (old new : Arguments) (args : List Argument) (written : old ≡ pieces_of_arguments args) where
-  pub index_read : (i : _) (ps more : List Piece) → ps ≡ pieces.Index i ∷ more → new ≡ old ++ pieces_of_argument (index i) → IsFurther max all (list_of_calling all (called max f is_commuting args) ps) f is_commuting new more
+module _ (max : ℕ) (all : Meanings) (f : ℕ) (is_commuting : Bool) (old new : Arguments) (args : List Argument) (written : old ≡ pieces_of_arguments args) where
+  pub index_read : (i : _) (ps more : List Piece) → ps ≡ pieces.Index i ∷ more → new ≡ old ++ pieces_of_argument (index (index_of all i)) → IsFurther max all (list_of_calling all (called max f is_commuting args) ps) f is_commuting new more
   unfolding read_from fed
   index_read i ps more e h = record {
-    now = args ++ index i ∷ [];
-    written = one_argument_more old new args (index i) written h;
+    now = args ++ index (index_of all i) ∷ [];
+    written = one_argument_more old new args (index (index_of all i)) written h;
     read = ap (list_of_calling all (called max f is_commuting args)) e;
   }
 
-  pub vector_read : (v : ℕ) (ps more : List Piece) → ps ≡ pieces.Vector v ∷ more → new ≡ old ++ pieces_of_argument (vector v) → IsFurther max all (list_of_calling all (called max f is_commuting args) ps) f is_commuting new more
+  pub vector_read : (v : ℕ) (ps more : List Piece) → ps ≡ pieces.Vector v ∷ more → new ≡ old ++ pieces_of_argument (vector (vector_of all v)) → IsFurther max all (list_of_calling all (called max f is_commuting args) ps) f is_commuting new more
   unfolding read_from fed
   vector_read v ps more e h = record {
-    now = args ++ vector v ∷ [];
-    written = one_argument_more old new args (vector v) written h;
+    now = args ++ vector (vector_of all v) ∷ [];
+    written = one_argument_more old new args (vector (vector_of all v)) written h;
+    read = ap (list_of_calling all (called max f is_commuting args)) e;
+  }
+
+  pub field_read : (w : ℕ) (ps more : List Piece) → ps ≡ pieces.Field w ∷ more → new ≡ old ++ pieces_of_arguments (field_of all w) → IsFurther max all (list_of_calling all (called max f is_commuting args) ps) f is_commuting new more
+  unfolding read_from fed
+  field_read w ps more e h = record {
+    now = args ++ field_of all w;
+    written = arguments_more old new args (field_of all w) written h;
     read = ap (list_of_calling all (called max f is_commuting args)) e;
   }
 
   -- an expression was read, and its list is this
-  pub expression_read : (list l : Listing) (terms : List Monomial) (rest : List Piece) → list ≡ list_of_calling all (record { max = max; function = f; is_commuting = is_commuting; arguments = with_argument (Ok args) (argument_of l) }) rest
+  pub expression_read : (list l : Listing) (terms : List Monomial) (rest : List Piece) → list ≡ list_of_calling all (record { max = max; function = f; is_commuting = is_commuting; arguments = with_arguments (Ok args) (one_argument (argument_of l)) }) rest
       → argument_of l ≡ Ok (expression (summands_of terms)) → new ≡ old ++ pieces_of_argument (expression (summands_of terms)) → IsFurther max all list f is_commuting new rest
   expression_read list l terms rest e a h = record {
     now = args ++ expression (summands_of terms) ∷ [];
     written = one_argument_more old new args (expression (summands_of terms)) written h;
-    read = e ∙ ap (λ r. list_of_calling all (record { max = max; function = f; is_commuting = is_commuting; arguments = with_argument (Ok args) r }) rest) a;
+    read = e ∙ ap (λ r. list_of_calling all (record { max = max; function = f; is_commuting = is_commuting; arguments = with_arguments (Ok args) (one_argument r) }) rest) a;
   }
 
-  pub expression_refused : (list l : Listing) (cause : Cause) (rest : List Piece) → list ≡ list_of_calling all (record { max = max; function = f; is_commuting = is_commuting; arguments = with_argument (Ok args) (argument_of l) }) rest
+  pub expression_refused : (list l : Listing) (cause : Cause) (rest : List Piece) → list ≡ list_of_calling all (record { max = max; function = f; is_commuting = is_commuting; arguments = with_arguments (Ok args) (one_argument (argument_of l)) }) rest
       → argument_of l ≡ Err cause → list ≡ refusal cause
   expression_refused list l cause rest e a =
-      let k : Calling = record { max = max; function = f; is_commuting = is_commuting; arguments = with_argument (Ok args) (argument_of l) } in
-      e ∙ refused_stays all cause k rest (ap (with_argument (Ok args)) a)
+      let k : Calling = record { max = max; function = f; is_commuting = is_commuting; arguments = with_arguments (Ok args) (one_argument (argument_of l)) } in
+      e ∙ refused_stays all cause k rest (ap (λ r. with_arguments (Ok args) (one_argument r)) a)
 
 -- all arguments were read
-pub list_called : {W E : Type 0} (all : List Stored) (max f : ℕ) (is_commuting : Bool) (arguments : Arguments) (call : Call) (rest : List Piece) (listing : W → Listing) (r : Result W E) (list : Listing)
+pub list_called : {W E : Type 0} (all : Meanings) (max f : ℕ) (is_commuting : Bool) (arguments : Arguments) (call : Call) (rest : List Piece) (listing : W → Listing) (r : Result W E) (list : Listing)
     → IsFurther max all list f is_commuting arguments rest → call ≡ call_from f arguments → rest ≡ [] → IfOk r (λ w. listing w ≡ list_of_call is_commuting call) → IfOk r (λ w. listing w ≡ list)
 unfolding read_from
 list_called all max f is_commuting arguments call rest listing r list h is none made =
@@ -245,21 +294,6 @@ list_called all max f is_commuting arguments call rest listing r list h is none 
 pub some_from : {X : Type 0} (b : Bool) (xs : List X) → b ≡ (length xs == 0) → b ≡ false → 0 < length xs
 some_from b [] e f = absurd (cc)
 some_from b (x ∷ xs) e f = omega arith
-
--- A product as a list.
-
-product_listed : (answer : Result (Option Monomial) ProductError) (p : Result (Option Monomial) Cause) (l : Listing) → IfOk answer (λ m. p ≡ Ok m) → ((cause : Cause) → answer ≡ Err (Refused cause) → p ≡ Err cause)
-    → ListsProduct answer l → l ≡ of_product p
-product_listed (Ok (Some m)) p l ok refused h = h ∙ ap of_product (sym ok)
-product_listed (Ok None) p l ok refused h = h ∙ ap of_product (sym ok)
-product_listed (Err (Refused cause)) p l ok refused h = h ∙ ap of_product (sym (refused cause refl))
-product_listed (Err Memory) p l ok refused h = absurd h
-
-pub alone_listed : {W E : Type 0} (listing : W → Listing) (r : Result W E) (answer : Result (Option Monomial) ProductError) (p : Result (Option Monomial) Cause) (t : Term)
-    → IfOk answer (λ m. p ≡ Ok m) → ((cause : Cause) → answer ≡ Err (Refused cause) → p ≡ Err cause) → p ≡ product (once t ∷ []) → IfOk r (λ w. ListsProduct answer (listing w)) → IfOk r (λ w. listing w ≡ alone t)
-unfolding alone
-alone_listed listing (Ok w) answer p t ok refused same h = product_listed answer p (listing w) ok refused h ∙ ap of_product same
-alone_listed listing (Err e) answer p t ok refused same h = tt
 
 -- Collecting a list.
 
@@ -287,7 +321,7 @@ refused_argument done whole left cause e h = ap argument_of (e ∙ ap (followed 
 
 -- An argument that is an expression.
 
-pub argument_begun : {E : Type 0} (max : ℕ) (all : List Stored) (piece : Piece) (ps more : List Piece) (old : Arguments) (r : Result Read E) → ps ≡ piece ∷ more → opens piece ≡ true
+pub argument_begun : {E : Type 0} (max : ℕ) (all : Meanings) (piece : Piece) (ps more : List Piece) (old : Arguments) (r : Result Read E) → ps ≡ piece ∷ more → opens piece ≡ true
     → IfOk r (λ read. ReadsExpression max all more old read) → IfOk r (λ read. ReadsArgument max all ps old read)
 argument_begun max all piece ps more old (Ok read) is opened h = λ f k args e.
     leads_from max all (list_of_calling all (called max f k args) ps) (read_from all (record { top = in_sum (fresh max); outer = in_function (called max f k args) ∷ [] }) more) f k read
@@ -295,15 +329,15 @@ argument_begun max all piece ps more old (Ok read) is opened h = λ f k args e.
 argument_begun max all piece ps more old (Err e) is opened h = tt
 
 -- its pieces are these, and behind it stand those
-pub expression_ended : (max : ℕ) (all : List Stored) (f : ℕ) (k : Bool) (args : List Argument) (ps within rest : List Piece) (len power : ℕ) → closing_at 0 0 ps ≡ Some (len, power) → within ≡ take len ps → rest ≡ drop (len + 1) ps
+pub expression_ended : (max : ℕ) (all : Meanings) (f : ℕ) (k : Bool) (args : List Argument) (ps within rest : List Piece) (len : ℕ) (power : Ended) → closing_at 0 0 ps ≡ Some (len, power) → within ≡ take len ps → rest ≡ drop (len + 1) ps
     → read_from all (record { top = in_sum (fresh max); outer = in_function (called max f k args) ∷ [] }) ps
-    ≡ list_of_calling all (record { max = max; function = f; is_commuting = k; arguments = with_argument (Ok args) (argument_of (list_of_pieces max all within)) }) rest
+    ≡ list_of_calling all (record { max = max; function = f; is_commuting = k; arguments = with_arguments (Ok args) (one_argument (argument_of (list_of_pieces max all within))) }) rest
 expression_ended max all f k args ps within rest len power closes front behind =
     let h = read_ended all (in_function (called max f k args)) 0 (in_sum (fresh max)) [] ps len power closes in
     let e : len - 0 ≡ len = omega arith in
     (rw e at h.read)
-    ∙ ap (λ qs. list_of_calling all (record { max = max; function = f; is_commuting = k; arguments = with_argument (Ok args) (argument_of (list_of_pieces max all qs)) }) (drop (len + 1) ps)) (sym front)
-    ∙ ap (list_of_calling all (record { max = max; function = f; is_commuting = k; arguments = with_argument (Ok args) (argument_of (list_of_pieces max all within)) })) (sym behind)
+    ∙ ap (λ qs. list_of_calling all (record { max = max; function = f; is_commuting = k; arguments = with_arguments (Ok args) (one_argument (argument_of (list_of_pieces max all qs))) }) (drop (len + 1) ps)) (sym front)
+    ∙ ap (list_of_calling all (record { max = max; function = f; is_commuting = k; arguments = with_arguments (Ok args) (one_argument (argument_of (list_of_pieces max all within))) })) (sym behind)
 
 -- all terms of a list were collected
 pub collected_all : {E : Type 0} (c : Collector) (whole left : Listing) (h : AreTaken c whole left) (r : Result (Result (Vec Monomial) Refusal) E) → left ≡ nothing → IfOk r (λ found. IsCollectedFrom found c) → IfOk r (λ found. IsCollected found whole)

@@ -1,6 +1,9 @@
+pub mod Alones
 pub mod Behind
 pub mod Called
-pub mod Keeping
+pub mod Draining
+pub mod Inverses
+mod Keeping
 pub mod Levels
 pub mod Listings
 pub mod Literals
@@ -12,6 +15,8 @@ pub mod Places
 pub mod Powered
 pub mod Powers
 pub mod Products
+pub mod Raised
+pub mod RowParts
 pub mod Rows
 pub mod Streamed
 pub mod Taking

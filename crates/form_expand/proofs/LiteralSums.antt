@@ -3,7 +3,7 @@ use Rattle.std.proofs.Common.{◌≡◌, ℕ, ◌≤◌, false, List, [], ◌∷
 use Rattle.form_term.specs.declared.monomial.Monomial.{Monomial}
 use Rattle.form_tree.specs.declared.tree.Piece.{Piece}
 use Rattle.form_expand.specs.declared.literal.Literal.{Literal}
-use Rattle.form_expand.specs.declared.stored.Stored.{Stored}
+use Rattle.form_expand.specs.Meanings.{Meanings}
 use Rattle.form_expand.specs.Listing.{Listing, nothing, single, before, limited, followed, signed, with_sign}
 use Rattle.form_expand.specs.Literals.{IsLiteral}
 use Rattle.form_expand.specs.Reading.{in_sum, fresh, read_from, list_of_pieces}
@@ -12,7 +12,7 @@ use Rattle.form_expand.proofs.Behind.{pieces_of_none, read_behind}
 use Rattle.form_expand.proofs.Listings.{followed_nothing, followed_last, followed_before, limited_nothing, limited_within, limited_followed_last, taken_on}
 use Rattle.form_expand.proofs.Streamed.{one_limited}
 
-module _ (max : ℕ) (all : List Stored) where
+module _ (max : ℕ) (all : Meanings) where
   -- the list of pieces is within its limit
   pub pieces_limited : (pieces : List Piece) → limited max (list_of_pieces max all pieces) ≡ list_of_pieces max all pieces
   pieces_limited pieces =

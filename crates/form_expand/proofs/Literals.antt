@@ -12,7 +12,7 @@ use Rattle.form_tree.specs.declared.tree.Link.TheVariants as links
 use Rattle.form_tree.specs.declared.tree.Piece.{Piece}
 use Rattle.form_tree.specs.declared.tree.Piece.TheVariants as pieces
 use Rattle.form_expand.specs.declared.literal.Literal.{Literal}
-use Rattle.form_expand.specs.declared.stored.Stored.{Stored}
+use Rattle.form_expand.specs.Meanings.{Meanings}
 use Rattle.form_expand.specs.Left.{row, row_behind}
 use Rattle.form_expand.specs.Listing.{Listing, nothing, single, before_by, limited, followed, pairs, powers, signed}
 use Rattle.form_expand.specs.Literals.{IsLiteral, IsTaken, IsTimes, sign_behind}
@@ -61,7 +61,7 @@ one_more max (k ∷ ks) l old new one t =
     ∙ ap (λ last. limited max (pairs (limited max (single old)) (limited max last))) t.alone
     ∙ pair_of_ones max old t.factor new t.product
 
-module _ (max : ℕ) (all : List Stored) where
+module _ (max : ℕ) (all : Meanings) where
   -- the product at hand, before which there is none
   abbrev part : Bool → List Listing → Part
   part is_minus factors = record { max = max; sum = nothing; is_minus = is_minus; factors = factors }
@@ -114,6 +114,11 @@ module _ (max : ℕ) (all : List Stored) where
   read_taken ps (pieces.Symbol link symbol power) old new read rest on t h =
       factor_read ps (drop (read + 1) ps) link (symbol_list symbol power) old new read h (ap (read_from all (record { top = in_sum (part old.is_minus h.factors); outer = [] })) rest)
       (starts_first read (begins link) h.factors h.first on) t.0 t.1
+  read_taken ps (pieces.Wild link symbol is_over power) old new read rest on t h = absurd t
+  read_taken ps (pieces.Raised link base by) old new read rest on t h = absurd t
+  read_taken ps (pieces.EndOfRaisedFunction by) old new read rest on t h = absurd t
+  read_taken ps (pieces.Field w) old new read rest on t h = absurd t
+  read_taken ps (pieces.CloseRaised by) old new read rest on t h = absurd t
   read_taken ps (pieces.Stored link expression power) old new read rest on t h = absurd t
   read_taken ps (pieces.Imaginary link power) old new read rest on t h = absurd t
   read_taken ps (pieces.Dot link p q power) old new read rest on t h = absurd t

@@ -6,7 +6,7 @@ use Rattle.form_term.specs.declared.monomial.Monomial.{Monomial}
 use Rattle.form_tree.specs.declared.tree.Piece.{Piece}
 use Rattle.form_expand.specs.declared.error.ExpandError.{ExpandError}
 use Rattle.form_expand.specs.declared.error.ExpandError.TheVariants.{Refused, Memory}
-use Rattle.form_expand.specs.declared.stored.Stored.{Stored}
+use Rattle.form_expand.specs.Meanings.{Meanings}
 use Rattle.form_expand.specs.declared.literal.Literal.{Literal}
 use Rattle.form_expand.specs.Literals.{IsLiteral}
 use Rattle.form_expand.specs.Listing.{Listing, nothing, single, refusal, before, limited, followed, signed, with_sign}
@@ -55,7 +55,7 @@ module _ (limit given : ℕ) (is_minus : Bool) (rest : Listing) where
   stream_on product h = ap left h ∙ ap (limited (limit - given)) (followed_nothing rest)
 
 -- where nothing is left to read
-pub stream_done : (limit given : ℕ) (is_minus : Bool) (all : List Stored) (pieces : List Piece) (product : Listing) → product ≡ nothing → pieces ≡ []
+pub stream_done : (limit given : ℕ) (is_minus : Bool) (all : Meanings) (pieces : List Piece) (product : Listing) → product ≡ nothing → pieces ≡ []
     → limited (limit - given) (followed (signed is_minus product) (list_of_pieces limit all pieces)) ≡ nothing
 stream_done limit given is_minus all pieces product h e =
     stream_on limit given is_minus (list_of_pieces limit all pieces) product h
@@ -64,7 +64,7 @@ stream_done limit given is_minus all pieces product h e =
     ∙ limited_nothing (limit - given)
 
 -- a product is read
-pub stream_read : (limit given : ℕ) (all : List Stored) (pieces rest : List Piece) (is_minus was_minus : Bool) (factors : List Listing) (old new : Listing)
+pub stream_read : (limit given : ℕ) (all : Meanings) (pieces rest : List Piece) (is_minus was_minus : Bool) (factors : List Listing) (old new : Listing)
     → IsRead limit all pieces is_minus factors rest → old ≡ nothing → new ≡ row limit factors
     → limited (limit - given) (followed (signed is_minus new) (list_of_pieces limit all rest))
     ≡ limited (limit - given) (followed (signed was_minus old) (list_of_pieces limit all pieces))
@@ -89,7 +89,7 @@ one_limited n zero is_minus m rest h =
 one_limited n (suc k) is_minus m rest h = ap (λ l. limited n (followed (signed is_minus l) rest)) (limited_within (suc k) (single m) (omega arith))
 
 -- a product of numbers and symbols is read, whose term is next
-pub stream_literal : (limit given : ℕ) (all : List Stored) (pieces : List Piece) (literal : Literal) (read : ℕ) (was_minus : Bool) (product : Listing) → IsLiteral limit all pieces literal read → product ≡ nothing
+pub stream_literal : (limit given : ℕ) (all : Meanings) (pieces : List Piece) (literal : Literal) (read : ℕ) (was_minus : Bool) (product : Listing) → IsLiteral limit all pieces literal read → product ≡ nothing
     → limited (limit - given) (followed (signed literal.is_minus (before literal.term product)) (list_of_pieces limit all (drop read pieces)))
     ≡ limited (limit - given) (followed (signed was_minus product) (list_of_pieces limit all pieces))
 stream_literal limit given all pieces literal read was_minus product h done =
@@ -108,7 +108,7 @@ signed_plus : (l : Listing) → signed false l ≡ l
 signed_plus l = ap (λ ms. record { terms = ms; end = l.end }) (map_same (with_sign false) (λ m. refl) l.terms)
 
 -- a product with nothing to read behind it
-pub stream_alone : (limit : ℕ) (all : List Stored) (product : Listing) → limited (limit - 0) (followed (signed false product) (list_of_pieces limit all [])) ≡ limited limit product
+pub stream_alone : (limit : ℕ) (all : Meanings) (product : Listing) → limited (limit - 0) (followed (signed false product) (list_of_pieces limit all [])) ≡ limited limit product
 stream_alone limit all product =
     let e : limit - 0 ≡ limit = omega arith in
     rw e

@@ -1,10 +1,8 @@
 -- Reading the arguments of a function.
-use Rattle.std.specs.Prelude.{◌≡◌, ℕ, ◌≤◌, ◌<◌, Bool, false, List, [], ◌∷◌, length, All, Some, None, Result, Ok, Err}
+use Rattle.std.specs.Prelude.{◌≡◌, ℕ, ◌≤◌, ◌<◌, Bool, false, List, [], ◌∷◌, length, All, Result, Ok, Err}
 use Rattle.std.specs.List.Sorted.{IsStrictlySortedBy}
 use Rattle.std.specs.Ordering.{on}
 use Rattle.std.specs.Global.{Vec}
-use Rattle.form_base.specs.declared.cause.Cause.{Cause}
-use Rattle.form_base.specs.declared.cause.Cause.TheVariants.{Overflow}
 use Rattle.form_frac.specs.Fraction.{is_zero}
 use Rattle.form_term.specs.declared.monomial.Monomial.{Monomial}
 use Rattle.form_term.specs.declared.arguments.Arguments.{Arguments}
@@ -16,11 +14,11 @@ use Rattle.form_collect.specs.Collector.{IsCollectionOf}
 use Rattle.form_expand.specs.declared.function.Read.{Read}
 use Rattle.form_expand.specs.declared.function.Read.TheVariants.{Further, Refused}
 use Rattle.form_expand.specs.declared.refusal.Refusal.{Refusal}
-use Rattle.form_expand.specs.declared.stored.Stored.{Stored}
+use Rattle.form_expand.specs.Meanings.{Meanings}
 use Rattle.form_expand.specs.Listing.{Listing, refusal}
 use Rattle.form_expand.specs.Reading.{Calling, in_function, in_sum, fresh, read_from}
 use Rattle.form_expand.specs.Readers.{list_of_calling}
-use Rattle.form_expand.specs.Singles.{argument_of, of_collected}
+use Rattle.form_expand.specs.Singles.{argument_of}
 use Rattle.form_expand.specs.Walks.{all_of}
 
 -- a function with these arguments so far
@@ -28,21 +26,21 @@ abbrev pub called : ℕ → ℕ → Bool → List Argument → Calling
 called max f is_commuting args = record { max = max; function = f; is_commuting = is_commuting; arguments = Ok args }
 
 -- These arguments were read, which leaves these pieces.
-pub record IsFurther (max : ℕ) (all : List Stored) (list : Listing) (f : ℕ) (is_commuting : Bool) (new : Arguments) (rest : List Piece) : Type 0 where
+pub record IsFurther (max : ℕ) (all : Meanings) (list : Listing) (f : ℕ) (is_commuting : Bool) (new : Arguments) (rest : List Piece) : Type 0 where
   pub now : List Argument
   pub written : new ≡ pieces_of_arguments now
   pub read : list ≡ list_of_calling all (called max f is_commuting now) rest
 
-abbrev pub Leads : ℕ → List Stored → Listing → ℕ → Bool → Read → Type 0
+abbrev pub Leads : ℕ → Meanings → Listing → ℕ → Bool → Read → Type 0
 Leads max all list f is_commuting (Further new rest) = IsFurther max all list f is_commuting new rest.now
 Leads max all list f is_commuting (Refused r) = list ≡ refusal r.cause
 
 -- whatever the function and its arguments before are
-abbrev pub ReadsArgument : ℕ → List Stored → List Piece → Arguments → Read → Type 0
+abbrev pub ReadsArgument : ℕ → Meanings → List Piece → Arguments → Read → Type 0
 ReadsArgument max all ps old read = (f : ℕ) (is_commuting : Bool) (args : List Argument) → old ≡ pieces_of_arguments args → Leads max all (list_of_calling all (called max f is_commuting args) ps) f is_commuting read
 
 -- the same where an argument that is an expression was begun
-abbrev pub ReadsExpression : ℕ → List Stored → List Piece → Arguments → Read → Type 0
+abbrev pub ReadsExpression : ℕ → Meanings → List Piece → Arguments → Read → Type 0
 ReadsExpression max all ps old read = (f : ℕ) (is_commuting : Bool) (args : List Argument) → old ≡ pieces_of_arguments args
     → Leads max all (read_from all (record { top = in_sum (fresh max); outer = in_function (called max f is_commuting args) ∷ [] }) ps) f is_commuting read
 

@@ -24,6 +24,10 @@ end_of (Some refusal) = Some refusal.cause
 abbrev pub listing : Whole → Listing
 listing w = record { terms = kept_terms w.kept; end = end_of w.end }
 
+-- a list and its power
+abbrev pub listed : Whole × ℕ → Listing × ℕ
+listed w = (listing w.0, w.1)
+
 -- what is left of a list from a place on
 abbrev pub rest_at : ℕ → Listing → Listing
 rest_at place l = record { terms = drop place l.terms; end = l.end }

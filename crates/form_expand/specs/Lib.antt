@@ -1,3 +1,5 @@
+pub mod Alone
+pub mod Bound
 pub mod Calls
 pub mod Closings
 pub mod Depths
@@ -10,10 +12,12 @@ pub mod Kept
 pub mod Left
 pub mod Listing
 pub mod Literals
+pub mod Meanings
 pub mod Modes
 pub mod Next
 pub mod Numbers
 pub mod Parentheses
+pub mod Parts
 pub mod Pieces
 pub mod Products
 pub mod Readers

@@ -8,7 +8,7 @@ use Rattle.form_tree.specs.declared.tree.Link.TheVariants as links
 use Rattle.form_tree.specs.declared.tree.Piece.{Piece}
 use Rattle.form_tree.specs.declared.tree.Piece.TheVariants as pieces
 use Rattle.form_expand.specs.declared.literal.Literal.{Literal}
-use Rattle.form_expand.specs.declared.stored.Stored.{Stored}
+use Rattle.form_expand.specs.Meanings.{Meanings}
 use Rattle.form_expand.specs.Listing.{Listing, single, limited, followed, signed}
 use Rattle.form_expand.specs.Numbers.{number_list, symbol_list}
 use Rattle.form_expand.specs.Reading.{list_of_pieces}
@@ -33,7 +33,7 @@ IsTaken (pieces.Symbol link symbol power) old new = (new.is_minus ≡ sign_behin
 IsTaken piece old new = ⊥
 
 -- The product at the front of these pieces is this term, and has so many of them.
-pub record IsLiteral (max : ℕ) (all : List Stored) (pieces : List Piece) (l : Literal) (read : ℕ) : Type 0 where
+pub record IsLiteral (max : ℕ) (all : Meanings) (pieces : List Piece) (l : Literal) (read : ℕ) : Type 0 where
   pub some : 0 < read
   pub within : read ≤ length pieces
   pub list : list_of_pieces max all pieces ≡ limited max (followed (signed l.is_minus (limited max (single l.term))) (list_of_pieces max all (drop read pieces)))

@@ -4,7 +4,7 @@ use Rattle.form_tree.specs.declared.tree.Link.{Link}
 use Rattle.form_tree.specs.declared.tree.Link.TheVariants as links
 use Rattle.form_tree.specs.declared.tree.Piece.{Piece}
 use Rattle.form_tree.specs.declared.tree.Piece.TheVariants as pieces
-use Rattle.form_expand.specs.declared.stored.Stored.{Stored}
+use Rattle.form_expand.specs.Meanings.{Meanings}
 use Rattle.form_expand.specs.Left.{row}
 use Rattle.form_expand.specs.Listing.{Listing, nothing, limited, followed, signed}
 use Rattle.form_expand.specs.Reading.{Part, Calling, Frame, in_sum, in_function, Reading, fresh, calling, begins_product, read_from, list_of_pieces}
@@ -18,6 +18,8 @@ is_minus_link links.Times = false
 abbrev pub is_minus_piece : Piece → Bool
 is_minus_piece (pieces.Number link value power) = is_minus_link link
 is_minus_piece (pieces.Symbol link symbol power) = is_minus_link link
+is_minus_piece (pieces.Wild link symbol is_over power) = is_minus_link link
+is_minus_piece (pieces.Raised link base by) = is_minus_link link
 is_minus_piece (pieces.Stored link expression power) = is_minus_link link
 is_minus_piece (pieces.Imaginary link power) = is_minus_link link
 is_minus_piece (pieces.Dot link p q power) = is_minus_link link
@@ -25,17 +27,22 @@ is_minus_piece (pieces.Component link c power) = is_minus_link link
 is_minus_piece (pieces.Delta link i j power) = is_minus_link link
 is_minus_piece (pieces.Function link f is_commuting) = is_minus_link link
 is_minus_piece (pieces.EndOfFunction power) = false
+is_minus_piece (pieces.EndOfRaisedFunction by) = false
+is_minus_piece (pieces.Field w) = false
 is_minus_piece (pieces.Index i) = false
 is_minus_piece (pieces.Vector v) = false
 is_minus_piece pieces.Argument = false
 is_minus_piece pieces.EndOfArgument = false
 is_minus_piece (pieces.Open link) = is_minus_link link
 is_minus_piece (pieces.Close power) = false
+is_minus_piece (pieces.CloseRaised by) = false
 
 -- a piece as that of a further factor
 abbrev pub joined : Piece → Piece
 joined (pieces.Number link value power) = pieces.Number links.Times value power
 joined (pieces.Symbol link symbol power) = pieces.Symbol links.Times symbol power
+joined (pieces.Wild link symbol is_over power) = pieces.Wild links.Times symbol is_over power
+joined (pieces.Raised link base by) = pieces.Raised links.Times base by
 joined (pieces.Stored link expression power) = pieces.Stored links.Times expression power
 joined (pieces.Imaginary link power) = pieces.Imaginary links.Times power
 joined (pieces.Dot link p q power) = pieces.Dot links.Times p q power
@@ -43,12 +50,15 @@ joined (pieces.Component link c power) = pieces.Component links.Times c power
 joined (pieces.Delta link i j power) = pieces.Delta links.Times i j power
 joined (pieces.Function link f is_commuting) = pieces.Function links.Times f is_commuting
 joined (pieces.EndOfFunction power) = pieces.EndOfFunction power
+joined (pieces.EndOfRaisedFunction by) = pieces.EndOfRaisedFunction by
+joined (pieces.Field w) = pieces.Field w
 joined (pieces.Index i) = pieces.Index i
 joined (pieces.Vector v) = pieces.Vector v
 joined pieces.Argument = pieces.Argument
 joined pieces.EndOfArgument = pieces.EndOfArgument
 joined (pieces.Open link) = pieces.Open links.Times
 joined (pieces.Close power) = pieces.Close power
+joined (pieces.CloseRaised by) = pieces.CloseRaised by
 
 -- a sum of which only this product is read
 abbrev pub product_part : ℕ → Bool → List Listing → Part
@@ -67,26 +77,26 @@ EndsProduct [] = Unit {0}
 EndsProduct (p ∷ ps) = begins_product p ≡ true
 
 -- this piece and perhaps more were read, which makes these factors those
-abbrev pub IsReadFactor : ℕ → List Stored → Piece → List Piece → List Listing → List Listing → List Piece → Type 0
+abbrev pub IsReadFactor : ℕ → Meanings → Piece → List Piece → List Listing → List Listing → List Piece → Type 0
 IsReadFactor max all piece more old new rest = (is_minus : Bool) → read_from all (in_product max is_minus old) (joined piece ∷ more) ≡ read_from all (in_product max is_minus new) rest
 
 -- the same behind the piece that begins a parenthesis, or a function
-abbrev pub IsReadWithin : Frame → ℕ → List Stored → List Piece → List Listing → List Listing → List Piece → Type 0
+abbrev pub IsReadWithin : Frame → ℕ → Meanings → List Piece → List Listing → List Listing → List Piece → Type 0
 IsReadWithin f max all ps old new rest = (is_minus : Bool) → read_from all (in_frame f max is_minus old) ps ≡ read_from all (in_product max is_minus new) rest
 
-abbrev pub IsReadParenthesis : ℕ → List Stored → List Piece → List Listing → List Listing → List Piece → Type 0
+abbrev pub IsReadParenthesis : ℕ → Meanings → List Piece → List Listing → List Listing → List Piece → Type 0
 IsReadParenthesis max all ps old new rest = IsReadWithin (in_sum (fresh max)) max all ps old new rest
 
-abbrev pub IsReadFunction : ℕ → Bool → ℕ → List Stored → List Piece → List Listing → List Listing → List Piece → Type 0
+abbrev pub IsReadFunction : ℕ → Bool → ℕ → Meanings → List Piece → List Listing → List Listing → List Piece → Type 0
 IsReadFunction f is_commuting max all ps old new rest = IsReadWithin (in_function (calling max f is_commuting)) max all ps old new rest
 
 -- the list of a function whose arguments so far are these, and the pieces of the others these
-abbrev pub list_of_calling : List Stored → Calling → List Piece → Listing
+abbrev pub list_of_calling : Meanings → Calling → List Piece → Listing
 list_of_calling all k ps = read_from all (record { top = in_function k; outer = [] }) ps
 
-abbrev pub IsReadOn : ℕ → List Stored → List Piece → List Listing → List Listing → List Piece → Type 0
+abbrev pub IsReadOn : ℕ → Meanings → List Piece → List Listing → List Listing → List Piece → Type 0
 IsReadOn max all ps old new rest = ((is_minus : Bool) → read_from all (in_product max is_minus old) ps ≡ read_from all (in_product max is_minus new) rest) × EndsProduct rest
 
 -- a product with this sign and these factors was read, and this is behind it
-abbrev pub IsRead : ℕ → List Stored → List Piece → Bool → List Listing → List Piece → Type 0
+abbrev pub IsRead : ℕ → Meanings → List Piece → Bool → List Listing → List Piece → Type 0
 IsRead max all ps is_minus factors rest = list_of_pieces max all ps ≡ limited max (followed (signed is_minus (row max factors)) (list_of_pieces max all rest))

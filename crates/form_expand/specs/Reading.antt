@@ -6,12 +6,14 @@ use Rattle.form_tree.specs.declared.tree.Link.{Link}
 use Rattle.form_tree.specs.declared.tree.Link.TheVariants as links
 use Rattle.form_tree.specs.declared.tree.Piece.{Piece}
 use Rattle.form_tree.specs.declared.tree.Piece.TheVariants as pieces
-use Rattle.form_expand.specs.declared.stored.Stored.{Stored}
+use Rattle.form_expand.specs.declared.ended.Ended.{Ended}
+use Rattle.form_expand.specs.declared.ended.Ended.TheVariants.{Power, Raised}
+use Rattle.form_expand.specs.Bound.{wild_list, exponent_in, list_of_base, powered_by}
+use Rattle.form_expand.specs.Meanings.{Meanings, terms_of, index_of, vector_of, component_of, function_of, field_of}
 use Rattle.form_expand.specs.Left.{row}
 use Rattle.form_expand.specs.Listing.{Listing, nothing, limited, followed, powers, signed}
 use Rattle.form_expand.specs.Numbers.{number_list, symbol_list}
-use Rattle.form_expand.specs.Singles.{imaginary_list, dot_list, component_list, delta_list, function_list, argument_of, with_argument}
-use Rattle.form_expand.specs.Stored.{terms_of}
+use Rattle.form_expand.specs.Singles.{imaginary_list, dot_list, component_list, delta_list, function_list, argument_of, one_argument, with_arguments}
 
 -- A sum that is being read, to this limit of terms: the list of the products that are read, and of the product at hand
 -- its sign and the lists of its factors.
@@ -70,9 +72,9 @@ linked_frame link (in_function k) = in_function k
 abbrev pub with_factor : Listing → ℕ → Part → Part
 with_factor l power p = record { max = p.max; sum = p.sum; is_minus = p.is_minus; factors = p.factors ++ powers p.max l power ∷ [] }
 
--- a further argument
-abbrev pub argued : Result Argument Cause → Calling → Calling
-argued a k = record { max = k.max; function = k.function; is_commuting = k.is_commuting; arguments = with_argument k.arguments a }
+-- further arguments
+abbrev pub argued : Result (List Argument) Cause → Calling → Calling
+argued a k = record { max = k.max; function = k.function; is_commuting = k.is_commuting; arguments = with_arguments k.arguments a }
 
 -- what is being read: the innermost frame, and those around it from the inside
 pub record Reading : Type 0 where
@@ -91,13 +93,16 @@ factor_into link l power (in_function k) = in_function k
 abbrev pub with_piece : Link → Listing → ℕ → Reading → Reading
 with_piece link l power r = record { top = factor_into link l power r.top; outer = r.outer }
 
--- an argument that is one piece; in a sum it is passed over
-abbrev pub argument_into : Argument → Frame → Frame
-argument_into a (in_sum p) = in_sum p
-argument_into a (in_function k) = in_function (argued (Ok a) k)
+abbrev pub with_powered : Link → Listing × ℕ → Reading → Reading
+with_powered link f r = with_piece link f.0 f.1 r
 
-abbrev pub with_argument_piece : Argument → Reading → Reading
-with_argument_piece a r = record { top = argument_into a r.top; outer = r.outer }
+-- arguments that are one piece; in a sum it is passed over
+abbrev pub argument_into : List Argument → Frame → Frame
+argument_into args (in_sum p) = in_sum p
+argument_into args (in_function k) = in_function (argued (Ok args) k)
+
+abbrev pub with_argument_piece : List Argument → Reading → Reading
+with_argument_piece args r = record { top = argument_into args r.top; outer = r.outer }
 
 -- a function begins where a factor may; else an argument does
 abbrev pub begun_function : ℕ → Bool → Frame → Frame
@@ -108,33 +113,42 @@ begun_function f is_commuting (in_function k) = in_sum (fresh k.max)
 abbrev pub opening : Link → Frame → Reading → Reading
 opening link inner r = record { top = inner; outer = linked_frame link r.top ∷ r.outer }
 
--- something that was open within ends, with this list and to a power
-abbrev pub ended : Listing → ℕ → Frame → Frame
-ended l power (in_sum p) = in_sum (with_factor l power p)
-ended l power (in_function k) = in_function (argued (argument_of l) k)
+-- a list to a power as a further factor
+abbrev pub with_powered_factor : Listing × ℕ → Part → Part
+with_powered_factor f p = with_factor f.0 f.1 p
+
+-- something that was open within ends so, with this list
+abbrev pub ended : Meanings → Listing → Ended → Frame → Frame
+ended all l by (in_sum p) = in_sum (with_powered_factor (powered_by all by l) p)
+ended all l by (in_function k) = in_function (argued (one_argument (argument_of l)) k)
 
 -- the end of what is innermost; where nothing is open around it, it is passed over
-abbrev pub closing : ℕ → Frame → List Frame → Reading
-closing power top [] = record { top = top; outer = [] }
-closing power top (f ∷ fs) = record { top = ended (list_of_frame top) power f; outer = fs }
+abbrev pub closing : Meanings → Ended → Frame → List Frame → Reading
+closing all by top [] = record { top = top; outer = [] }
+closing all by top (f ∷ fs) = record { top = ended all (list_of_frame top) by f; outer = fs }
 
 -- a piece is read
-unfoldable pub fed : List Stored → Reading → Piece → Reading
+unfoldable pub fed : Meanings → Reading → Piece → Reading
 fed all r (pieces.Number link value power) = with_piece link (number_list value power) 1 r
 fed all r (pieces.Symbol link symbol power) = with_piece link (symbol_list symbol power) 1 r
+fed all r (pieces.Wild link symbol is_over power) = with_powered link (wild_list all symbol is_over power) r
+fed all r (pieces.Raised link base by) = with_powered link (list_of_base all base by.is_over (exponent_in all by.is_minus by.symbol)) r
 fed all r (pieces.Stored link expression power) = with_piece link (record { terms = terms_of all expression; end = None }) power r
 fed all r (pieces.Imaginary link power) = with_piece link imaginary_list power r
-fed all r (pieces.Dot link p q power) = with_piece link (dot_list p q power) 1 r
-fed all r (pieces.Component link c power) = with_piece link (component_list c) power r
-fed all r (pieces.Delta link i j power) = with_piece link (delta_list i j) power r
-fed all r (pieces.Function link f is_commuting) = opening link (begun_function f is_commuting r.top) r
-fed all r (pieces.EndOfFunction power) = closing power r.top r.outer
-fed all r (pieces.Index i) = with_argument_piece (index i) r
-fed all r (pieces.Vector v) = with_argument_piece (vector v) r
+fed all r (pieces.Dot link p q power) = with_piece link (dot_list (vector_of all p) (vector_of all q) power) 1 r
+fed all r (pieces.Component link c power) = with_piece link (component_list (component_of all c)) power r
+fed all r (pieces.Delta link i j power) = with_piece link (delta_list (index_of all i) (index_of all j)) power r
+fed all r (pieces.Function link f is_commuting) = opening link (begun_function (function_of all f) is_commuting r.top) r
+fed all r (pieces.EndOfFunction power) = closing all (Power power) r.top r.outer
+fed all r (pieces.EndOfRaisedFunction by) = closing all (Raised by) r.top r.outer
+fed all r (pieces.Field w) = with_argument_piece (field_of all w) r
+fed all r (pieces.Index i) = with_argument_piece (index (index_of all i) ∷ []) r
+fed all r (pieces.Vector v) = with_argument_piece (vector (vector_of all v) ∷ []) r
 fed all r pieces.Argument = opening links.Times (in_sum (fresh (limit_of r.top))) r
-fed all r pieces.EndOfArgument = closing 1 r.top r.outer
+fed all r pieces.EndOfArgument = closing all (Power 1) r.top r.outer
 fed all r (pieces.Open link) = opening link (in_sum (fresh (limit_of r.top))) r
-fed all r (pieces.Close power) = closing power r.top r.outer
+fed all r (pieces.Close power) = closing all (Power power) r.top r.outer
+fed all r (pieces.CloseRaised by) = closing all (Raised by) r.top r.outer
 
 -- the outermost frame
 abbrev pub outermost : Frame → List Frame → Frame
@@ -142,12 +156,12 @@ outermost top [] = top
 outermost top (f ∷ fs) = outermost f fs
 
 -- the list of the outermost frame once these pieces are read
-unfoldable pub read_from : List Stored → Reading → List Piece → Listing
+unfoldable pub read_from : Meanings → Reading → List Piece → Listing
 read_from all r [] = list_of_frame (outermost r.top r.outer)
 read_from all r (piece ∷ more) = read_from all (fed all r piece) more
 
 -- the list of these pieces
-abbrev pub list_of_pieces : ℕ → List Stored → List Piece → Listing
+abbrev pub list_of_pieces : ℕ → Meanings → List Piece → Listing
 list_of_pieces max all pieces = read_from all (beginning max) pieces
 
 -- whether a product begins with this piece
@@ -159,6 +173,8 @@ begins links.Times = false
 abbrev pub begins_product : Piece → Bool
 begins_product (pieces.Number link value power) = begins link
 begins_product (pieces.Symbol link symbol power) = begins link
+begins_product (pieces.Wild link symbol is_over power) = begins link
+begins_product (pieces.Raised link base by) = begins link
 begins_product (pieces.Stored link expression power) = begins link
 begins_product (pieces.Imaginary link power) = begins link
 begins_product (pieces.Dot link p q power) = begins link
@@ -166,9 +182,12 @@ begins_product (pieces.Component link c power) = begins link
 begins_product (pieces.Delta link i j power) = begins link
 begins_product (pieces.Function link f is_commuting) = begins link
 begins_product (pieces.EndOfFunction power) = false
+begins_product (pieces.EndOfRaisedFunction by) = false
+begins_product (pieces.Field w) = false
 begins_product (pieces.Index i) = false
 begins_product (pieces.Vector v) = false
 begins_product pieces.Argument = false
 begins_product pieces.EndOfArgument = false
 begins_product (pieces.Open link) = begins link
 begins_product (pieces.Close power) = false
+begins_product (pieces.CloseRaised by) = false

@@ -57,11 +57,16 @@ argument_by terms (Some cause) = Err cause
 unfoldable pub argument_of : Listing → Result Argument Cause
 argument_of l = argument_by l.terms l.end
 
--- one argument more; the first refusal stays
-abbrev pub with_argument : Result (List Argument) Cause → Result Argument Cause → Result (List Argument) Cause
-with_argument (Err cause) a = Err cause
-with_argument (Ok args) (Err cause) = Err cause
-with_argument (Ok args) (Ok a) = Ok (args ++ a ∷ [])
+-- one argument as a list
+abbrev pub one_argument : Result Argument Cause → Result (List Argument) Cause
+one_argument (Err cause) = Err cause
+one_argument (Ok a) = Ok (a ∷ [])
+
+-- further arguments; the first refusal stays
+abbrev pub with_arguments : Result (List Argument) Cause → Result (List Argument) Cause → Result (List Argument) Cause
+with_arguments (Err cause) more = Err cause
+with_arguments (Ok args) (Err cause) = Err cause
+with_arguments (Ok args) (Ok more) = Ok (args ++ more)
 
 -- a function with its arguments
 abbrev pub list_of_call : Bool → Call → Listing

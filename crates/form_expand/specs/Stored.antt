@@ -5,9 +5,9 @@ use Rattle.form_term.specs.declared.monomial.Monomial.{Monomial}
 use Rattle.form_expand.specs.declared.stored.Stored.{Stored}
 
 -- the terms of the first expression that has this Id; none where none has it
-unfoldable pub terms_of : List Stored → ℕ → List Monomial
-terms_of [] expression = []
-terms_of (s ∷ all) expression = if s.expression == expression then s.terms else terms_of all expression
+unfoldable pub terms_in : List Stored → ℕ → List Monomial
+terms_in [] expression = []
+terms_in (s ∷ all) expression = if s.expression == expression then s.terms else terms_in all expression
 
 -- no Id is lower than one before it
 abbrev pub Rise : List Stored → Type 0

@@ -1,14 +1,16 @@
-ghost use Rattle.std.specs.Prelude.{◌≡◌};
+ghost use Rattle.std.specs.Prelude.{◌≡◌, IfOk};
 ghost use Rattle.form_tree.specs.Tree.{Sum, pieces_of_sum};
 ghost use Rattle.form_expand.specs.Expanding.{list_of_sum};
+ghost use Rattle.form_expand.specs.Kept.{listing};
 ghost use Rattle.form_expand.specs.Next.{Gives};
 
 use crate::ExpandError;
 use crate::stored::Standing;
 use crate::stream::Stream;
+use crate::whole::Whole;
 use form_term::Monomial;
 use form_tree::Piece;
-use std::alloc::Global;
+use std::alloc::{AllocError, Global};
 use std::marker::Model;
 
 /// How many products of numbers and symbols a sum in parentheses may have that is read at once, where it stands within no
@@ -53,4 +55,32 @@ pub fn expand_tree<'a>(
     Expansion {
         stream: Stream::new(alloc, tree, limit, stored, MOST_OUTSIDE),
     }
+}
+
+/// The list of a right side, all of it and its end, as `expand_tree` gives it one by one.
+pub fn whole_list<'a>(
+    alloc: Global,
+    tree: &'a [Piece],
+    limit: u64,
+    names: &'a Standing,
+) -> Result<Whole<'static>, AllocError>
+    ensures { (s : Sum) → tree.now ≡ pieces_of_sum s → IfOk result (λ whole. listing whole ≡ list_of_sum limit names.now s) }
+{
+    drained(alloc, expand_tree(alloc, tree, limit, names))
+}
+
+/// All that is left of a list.
+fn drained(alloc: Global, mut list: Expansion) -> Result<Whole<'static>, AllocError>
+    ensures { IfOk result (λ whole. listing whole ≡ list.entry) }
+{
+    let mut terms = Vec::new(alloc);
+    for _ in 0..u64::MAX {
+        match list.next(alloc) {
+            Ok(Some(term)) => terms.push(term)?,
+            Ok(None) => return Ok(Whole::made(terms)),
+            Err(ExpandError::Refused(cause)) => return Ok(Whole::refused_behind(terms, cause)),
+            Err(ExpandError::Memory) => return Err(AllocError),
+        }
+    }
+    Err(AllocError)
 }

@@ -1,5 +1,6 @@
 ghost use Rattle.std.specs.Prelude.{◌≡◌, ℕ, suc, IfOk, OnOk};
 ghost use Rattle.std.specs.Bool.{OnTrue};
+ghost use Rattle.form_expand.specs.Bound.{powered, powered_by, refused_power};
 ghost use Rattle.form_expand.specs.Factors.{factor_left, factor_whole};
 ghost use Rattle.form_expand.specs.Kept.{listing};
 ghost use Rattle.form_expand.specs.Left.{times_by};
@@ -9,6 +10,7 @@ ghost use Rattle.form_expand.specs.Readers.{list_of_calling};
 ghost use Rattle.form_expand.specs.Reading.{calling, list_of_pieces};
 
 use crate::ExpandError;
+use crate::ended::Ended;
 use crate::function::Function;
 use crate::literal_sum::literal_sum;
 use crate::parenthesis::Parenthesis;
@@ -16,7 +18,7 @@ use crate::power::Power;
 use crate::stored::Standing;
 use crate::walk::Walk;
 use crate::whole::Whole;
-use form_base::Id;
+use form_base::{Cause, Id};
 use form_term::Monomial;
 use form_tree::Piece;
 use std::alloc::{AllocError, Global};
@@ -72,7 +74,7 @@ impl<'a> Factor<'a> {
     }
 
     /// A function whose arguments have these pieces, to a power.
-    pub fn function(
+    fn function(
         alloc: Global,
         stored: &'a Standing,
         pieces: &'a [Piece],
@@ -88,6 +90,56 @@ impl<'a> Factor<'a> {
         }
         let function = Function::new(stored, pieces, function, is_commuting, power - 1);
         Factor::Function(function)
+    }
+
+    /// A list that is refused in place of a power.
+    fn refused() -> Factor<'a>
+        ensures { (max : ℕ) → factor_whole max result ≡ powered max refused_power }
+    {
+        Factor::Once(Walk::new(Whole::refused(Cause::PowerRange)))
+    }
+
+    /// The sum of these pieces, which ends so.
+    pub fn ended_sum(
+        alloc: Global,
+        limit: u64,
+        stored: &'a Standing,
+        pieces: &'a [Piece],
+        end: Ended,
+        most: usize,
+    ) -> Result<Factor<'a>, AllocError>
+        ensures { IfOk result (λ factor. factor_whole limit factor
+            ≡ powered limit (powered_by stored.now end (list_of_pieces limit stored.now pieces.now))) }
+    {
+        match end.power(alloc, stored)? {
+            Some(power) => Factor::parenthesis(alloc, limit, stored, pieces, power, most),
+            None => Ok(Factor::refused()),
+        }
+    }
+
+    /// A function whose arguments have these pieces, and which ends so.
+    pub fn ended_function(
+        alloc: Global,
+        stored: &'a Standing,
+        pieces: &'a [Piece],
+        function: Id,
+        is_commuting: bool,
+        end: Ended,
+    ) -> Result<Factor<'a>, AllocError>
+        ensures { IfOk result (λ factor. (max : ℕ) → factor_whole max factor
+            ≡ powered max (powered_by stored.now end (list_of_calling stored.now (calling max function is_commuting) pieces.now))) }
+    {
+        match end.power(alloc, stored)? {
+            Some(power) => Ok(Factor::function(
+                alloc,
+                stored,
+                pieces,
+                function,
+                is_commuting,
+                power,
+            )),
+            None => Ok(Factor::refused()),
+        }
     }
 
     /// The sum of these pieces, from its first term on.

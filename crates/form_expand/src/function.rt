@@ -145,8 +145,15 @@ fn read_argument<'a>(
         return Ok(Read::Further(arguments, pieces));
     };
     match piece {
-        Piece::Index(index) => Ok(Read::Further(arguments.with_index(*index)?, more)),
-        Piece::Vector(vector) => Ok(Read::Further(arguments.with_vector(*vector)?, more)),
+        Piece::Index(index) => {
+            Ok(Read::Further(arguments.with_index(stored.index(*index))?, more))
+        }
+        Piece::Vector(vector) => {
+            Ok(Read::Further(arguments.with_vector(stored.vector(*vector))?, more))
+        }
+        Piece::Field(field) => {
+            Ok(Read::Further(arguments.with_pieces(stored.field(*field))?, more))
+        }
         Piece::Argument => read_expression(alloc, stored, limit, arguments, more, deeper),
         Piece::Open { .. } => read_expression(alloc, stored, limit, arguments, more, deeper),
         Piece::Function { .. } => read_expression(alloc, stored, limit, arguments, more, deeper),
@@ -181,7 +188,7 @@ fn read_expression<'a>(
 
 /// The collected terms of a list, or why it is refused.
 #[cycle(taking)]
-fn collected(
+pub fn collected(
     alloc: Global,
     list: &mut Stream,
     deeper: u64,

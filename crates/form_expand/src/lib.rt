@@ -5,12 +5,19 @@
 //! or a power of one (`whole`, `walk`, `power`), or a sum in parentheses, which is made anew, in the same way, for each
 //! term of the front before it (`parenthesis`), or a function, whose arguments are written out and collected when it is first
 //! asked for (`function`). So recursion goes as deep as parentheses and functions stand within one another.
+//!
+//! Names go through what a match bound them to (`stored`, `value`): a symbol to the list of an expression, and a power to a
+//! whole number (`bound`, `ended`), an index, a vector and a function to others, and a field to arguments.
 #![tactic(auto)]
 
+mod argument;
+mod bound;
+mod ended;
 mod error;
 mod expansion;
 mod factor;
 mod function;
+pub mod laws;
 mod literal;
 mod literal_sum;
 mod number;
@@ -20,16 +27,21 @@ mod product;
 mod progress;
 mod reader;
 mod refusal;
+mod row;
 mod single;
 mod stored;
 mod stream;
 mod times;
+mod value;
 mod walk;
 mod whole;
 
+pub use argument::argument_pieces;
 pub use error::ExpandError;
-pub use expansion::{Expansion, expand_tree};
+pub use expansion::{Expansion, expand_tree, whole_list};
+pub use row::{Part, Row};
 pub use stored::{Standing, Stored, Terms};
+pub use whole::Whole;
 
 #[cfg(test)]
 mod tests;

@@ -1,6 +1,6 @@
 //! Products of numbers and symbols, as the summands of a long sum are, each read into one term.
-ghost use Rattle.std.specs.Prelude.{◌≡◌, ◌<◌, ℕ, List, length, true, Ok, IfOk, IfSome};
-ghost use Rattle.form_expand.specs.declared.stored.Stored.{Stored};
+ghost use Rattle.std.specs.Prelude.{◌≡◌, ◌<◌, ℕ, length, true, Ok, IfOk, IfSome};
+ghost use Rattle.form_expand.specs.Meanings.{Meanings};
 ghost use Rattle.form_expand.specs.Listing.{with_sign};
 ghost use Rattle.form_expand.specs.Literals.{IsLiteral, IsTaken, IsTimes, sign_behind};
 ghost use Rattle.form_expand.specs.Numbers.{number_list, symbol_list};
@@ -104,7 +104,7 @@ fn made(answer: Result<bool, ProductError>) -> Result<bool, AllocError>
 /// and how many pieces it has.
 pub fn read_literal(alloc: Global, pieces: &[Piece]) -> Result<Option<(Literal, usize)>, AllocError>
     requires { 0 < length pieces.now }
-    ensures { IfOk result (λ found. IfSome found (λ read. (max : ℕ) (all : List Stored) →
+    ensures { IfOk result (λ found. IfSome found (λ read. (max : ℕ) (all : Meanings) →
         IsLiteral max all pieces.now read.0 read.1)) }
 {
     let mut literal = Literal {

@@ -1,6 +1,6 @@
 //! Sums of products of numbers and symbols, each of them read into its term at once.
-ghost use Rattle.std.specs.Prelude.{List, ◌≡◌, ◌≤◌, IfOk, IfSome};
-ghost use Rattle.form_expand.specs.declared.stored.Stored.{Stored};
+ghost use Rattle.std.specs.Prelude.{◌≡◌, ◌≤◌, IfOk, IfSome};
+ghost use Rattle.form_expand.specs.Meanings.{Meanings};
 ghost use Rattle.form_expand.specs.Reading.{list_of_pieces};
 ghost use Rattle.form_expand.specs.Walks.{all_of};
 
@@ -17,7 +17,7 @@ pub fn literal_sum(
     limit: u64,
     most: usize,
 ) -> Result<Option<Vec<Monomial>>, AllocError>
-    ensures { IfOk result (λ found. IfSome found (λ terms. (all : List Stored) →
+    ensures { IfOk result (λ found. IfSome found (λ terms. (all : Meanings) →
         list_of_pieces limit all pieces.now ≡ all_of terms.items)) }
 {
     let Some(count) = products(pieces, most) else {

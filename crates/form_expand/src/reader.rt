@@ -4,9 +4,11 @@ ghost use Rattle.form_expand.specs.Factors.{factor_whole};
 ghost use Rattle.form_expand.specs.Kept.{listing};
 ghost use Rattle.form_expand.specs.Pieces.{list_of_piece, listed_alone};
 ghost use Rattle.form_expand.specs.Reading.{begins_product};
-ghost use Rattle.form_expand.specs.Stored.{terms_of};
+ghost use Rattle.form_expand.specs.Meanings.{terms_of};
 ghost use Rattle.form_expand.specs.Readers.{IsRead, IsReadFactor, IsReadFunction, IsReadOn, IsReadParenthesis, is_minus_piece};
 
+use crate::bound::{raised_list, wild_list};
+use crate::ended::Ended;
 use crate::factor::Factor;
 use crate::number::{number_list, symbol_list};
 use crate::single::{component_list, delta_list, dot_list, imaginary_list};
@@ -58,6 +60,8 @@ fn is_subtracted(piece: &Piece) -> bool
     match piece {
         Piece::Number { link, .. }
         | Piece::Symbol { link, .. }
+        | Piece::Wild { link, .. }
+        | Piece::Raised { link, .. }
         | Piece::Stored { link, .. }
         | Piece::Imaginary { link, .. }
         | Piece::Dot { link, .. }
@@ -66,11 +70,14 @@ fn is_subtracted(piece: &Piece) -> bool
         | Piece::Function { link, .. }
         | Piece::Open { link } => *link == Link::Minus,
         Piece::EndOfFunction { .. }
+        | Piece::EndOfRaisedFunction(_)
+        | Piece::Field(_)
         | Piece::Index(_)
         | Piece::Vector(_)
         | Piece::Argument
         | Piece::EndOfArgument
-        | Piece::Close { .. } => false,
+        | Piece::Close { .. }
+        | Piece::CloseRaised(_) => false,
     }
 }
 
@@ -81,6 +88,8 @@ pub fn begins(piece: &Piece) -> bool
     match piece {
         Piece::Number { link, .. }
         | Piece::Symbol { link, .. }
+        | Piece::Wild { link, .. }
+        | Piece::Raised { link, .. }
         | Piece::Stored { link, .. }
         | Piece::Imaginary { link, .. }
         | Piece::Dot { link, .. }
@@ -89,11 +98,14 @@ pub fn begins(piece: &Piece) -> bool
         | Piece::Function { link, .. }
         | Piece::Open { link } => *link != Link::Times,
         Piece::EndOfFunction { .. }
+        | Piece::EndOfRaisedFunction(_)
+        | Piece::Field(_)
         | Piece::Index(_)
         | Piece::Vector(_)
         | Piece::Argument
         | Piece::EndOfArgument
-        | Piece::Close { .. } => false,
+        | Piece::Close { .. }
+        | Piece::CloseRaised(_) => false,
     }
 }
 
@@ -150,7 +162,7 @@ fn read_factor<'a>(
             more,
             stored,
             limit,
-            *function,
+            stored.function(*function),
             *is_commuting,
             factors,
         ),
@@ -169,6 +181,13 @@ fn piece_list<'a>(
     let found = match piece {
         Piece::Number { value, power, .. } => (number_list(alloc, *value, *power), 1),
         Piece::Symbol { symbol, power, .. } => (symbol_list(alloc, *symbol, *power)?, 1),
+        Piece::Wild {
+            symbol,
+            is_over,
+            power,
+            ..
+        } => wild_list(alloc, stored, *symbol, *is_over, *power as i128)?,
+        Piece::Raised { base, by, .. } => raised_list(alloc, stored, base, by)?,
         Piece::Stored {
             expression,
             power,
@@ -180,18 +199,24 @@ fn piece_list<'a>(
             right,
             power,
             ..
-        } => (dot_list(alloc, *left, *right, *power)?, 1),
+        } => {
+            let (left, right) = (stored.vector(*left), stored.vector(*right));
+            (dot_list(alloc, left, right, *power)?, 1)
+        },
         Piece::Component {
             component,
             power,
             ..
-        } => (component_list(alloc, *component)?, *power),
+        } => (component_list(alloc, stored.component(*component))?, *power),
         Piece::Delta {
             first,
             second,
             power,
             ..
-        } => (delta_list(alloc, *first, *second)?, *power),
+        } => {
+            let (first, second) = (stored.index(*first), stored.index(*second));
+            (delta_list(alloc, first, second)?, *power)
+        },
         _ => return Ok(None),
     };
     Ok(Some(found))
@@ -220,11 +245,11 @@ fn read_parenthesis<'a>(
         (map (factor_whole limit) factors.old.items) (map (factor_whole limit) factors.new.items) rest.now) }
     ensures shorter { IfOk result (λ rest. length rest.now ≤ length pieces.now) }
 {
-    let Some((len, power)) = closing(pieces) else {
+    let Some((len, end)) = closing(pieces) else {
         return Ok(&[]);
     };
     let (within, behind) = pieces.split_at(len);
-    factors.push(Factor::parenthesis(alloc, limit, stored, within, power, most)?)?;
+    factors.push(Factor::ended_sum(alloc, limit, stored, within, end, most)?)?;
     let (_, rest) = behind.split_at(1);
     Ok(rest)
 }
@@ -243,24 +268,24 @@ fn read_function<'a>(
         (map (factor_whole limit) factors.old.items) (map (factor_whole limit) factors.new.items) rest.now) }
     ensures shorter { IfOk result (λ rest. length rest.now ≤ length pieces.now) }
 {
-    let Some((len, power)) = closing(pieces) else {
+    let Some((len, end)) = closing(pieces) else {
         return Ok(&[]);
     };
     let (within, behind) = pieces.split_at(len);
-    let factor = Factor::function(alloc, stored, within, function, is_commuting, power);
+    let factor = Factor::ended_function(alloc, stored, within, function, is_commuting, end)?;
     factors.push(factor)?;
     let (_, rest) = behind.split_at(1);
     Ok(rest)
 }
 
 /// How many pieces there are before the one that ends what is open before them, and its power.
-pub fn closing(pieces: &[Piece]) -> Option<(usize, u32)>
+pub fn closing(pieces: &[Piece]) -> Option<(usize, Ended)>
     ensures { result ≡ closing_at 0 0 pieces.now }
 {
     let mut depth = 0;
     for (place, piece) in pieces.iter().enumerate() {
-        if let Some(power) = ended_by(depth, piece) {
-            return Some((place, power));
+        if let Some(end) = ended_by(depth, piece) {
+            return Some((place, end));
         }
         depth = depth_behind(depth, piece);
     }
@@ -268,12 +293,17 @@ pub fn closing(pieces: &[Piece]) -> Option<(usize, u32)>
 }
 
 /// The power where this piece ends what is open, within which so many are open.
-fn ended_by(depth: usize, piece: &Piece) -> Option<u32>
+fn ended_by(depth: usize, piece: &Piece) -> Option<Ended>
     ensures { result ≡ power_at_end depth piece.now }
 {
     match piece {
-        Piece::Close { power } | Piece::EndOfFunction { power } if depth == 0 => Some(*power),
-        Piece::EndOfArgument if depth == 0 => Some(1),
+        Piece::Close { power } | Piece::EndOfFunction { power } if depth == 0 => {
+            Some(Ended::Power(*power))
+        }
+        Piece::CloseRaised(by) | Piece::EndOfRaisedFunction(by) if depth == 0 => {
+            Some(Ended::Raised(*by))
+        }
+        Piece::EndOfArgument if depth == 0 => Some(Ended::Power(1)),
         _ => None,
     }
 }
@@ -285,9 +315,11 @@ fn depth_behind(depth: usize, piece: &Piece) -> usize
 {
     match piece {
         Piece::Function { .. } | Piece::Argument | Piece::Open { .. } => depth + 1,
-        Piece::EndOfFunction { .. } | Piece::EndOfArgument | Piece::Close { .. } => {
-            depth.saturating_sub(1)
-        }
+        Piece::EndOfFunction { .. }
+        | Piece::EndOfRaisedFunction(_)
+        | Piece::EndOfArgument
+        | Piece::Close { .. }
+        | Piece::CloseRaised(_) => depth.saturating_sub(1),
         _ => depth,
     }
 }

@@ -1,6 +1,7 @@
 //! Factors that are one term at most: `i_`, dot products, components, deltas and functions.
-ghost use Rattle.std.specs.Prelude.{◌≡◌, IfOk};
+ghost use Rattle.std.specs.Prelude.{◌≡◌, [], ◌∷◌, IfOk};
 ghost use Rattle.form_term.specs.Factor.{function_factor, non_commuting_factor};
+ghost use Rattle.form_normal.specs.Product.{product as product_of_all};
 ghost use Rattle.form_expand.specs.Kept.{listing};
 ghost use Rattle.form_expand.specs.Singles as definition;
 
@@ -90,14 +91,19 @@ pub fn call_list<'a>(alloc: Global, call: Call, is_commuting: bool) -> Result<Wh
 }
 
 /// The list of a term as a factor alone.
+#[tactic(auto, unfolding(crate::specs::Singles::alone))]
 fn alone<'a>(alloc: Global, term: Term) -> Result<Whole<'a>, AllocError>
     ensures { IfOk result (λ whole. listing whole ≡ definition.alone term) }
 {
+    term_list(alloc, Frac::one(), term)
+}
+
+/// The list of a term with a coefficient as a factor alone.
+pub fn term_list<'a>(alloc: Global, coefficient: Frac, term: Term) -> Result<Whole<'a>, AllocError>
+    ensures { IfOk result (λ whole. listing whole ≡ definition.of_product (product_of_all (record { coefficient = coefficient; term = term } ∷ []))) }
+{
     laws::products_of_one();
-    let factor = Monomial {
-        coefficient: Frac::one(),
-        term,
-    };
+    let factor = Monomial { coefficient, term };
     factor.laws();
     made(product(alloc, &Monomial::unit(alloc), &factor))
 }

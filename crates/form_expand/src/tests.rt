@@ -1,10 +1,14 @@
 //! Lists written out by hand, and limits.
 
-use crate::{ExpandError, Expansion, Standing, Stored, Terms, expand_tree};
+use crate::{
+    ExpandError, Expansion, Part, Row, Standing, Stored, Terms, argument_pieces, expand_tree,
+    whole_list,
+};
 use form_base::{Cause, Id};
 use form_frac::Frac;
-use form_term::{Index, Monomial, Term};
-use form_tree::{Link, Piece};
+use form_match::{Bindings, Wildcard};
+use form_term::{Index, Monomial, Term, laws};
+use form_tree::{Base, Exponent, Link, Piece};
 use std::alloc::{AllocError, Global};
 use std::test::Fail;
 
@@ -257,5 +261,165 @@ fn a_product_that_is_zero_gives_no_term(rt: HostRuntime) -> Result<(), Fail> {
     let pieces = no_delta(alloc)?;
     let terms: [&[(u32, i32)]; 1] = [&[(1, 1)]];
     assert!(rt; is_list(alloc, &pieces, 1, &terms)?);
+    Ok(())
+}
+
+/// The name 5 as a wildcard that stands for an argument.
+fn bound(alloc: Global, argument: &[Piece]) -> Result<Standing, AllocError> {
+    laws::lawful_pieces();
+    let none = Standing::from_vec(Vec::new(alloc));
+    let mut bindings = Bindings::new(alloc);
+    if let Some(value) = argument_pieces(alloc, argument, 9, &none)? {
+        bindings.push(Wildcard::Name(Id::new(5)), value.pieces())?;
+    }
+    Ok(Standing::bound(alloc, bindings))
+}
+
+/// Whether these powers are all that a piece gives where the name 5 stands for an argument.
+fn is_bound_list(
+    alloc: Global,
+    argument: &[Piece],
+    piece: Piece,
+    terms: &[&[(u32, i32)]],
+) -> Result<bool, AllocError> {
+    let names = bound(alloc, argument)?;
+    let pieces = [piece];
+    let mut list = expand_tree(alloc, &pieces, 9, &names);
+    Ok(gives_all(alloc, &mut list, terms)? && ends(alloc, &mut list))
+}
+
+/// The symbol 5, which is a wildcard, to a power.
+fn wild(is_over: bool, power: i32) -> Piece {
+    Piece::Wild {
+        link: Link::Plus,
+        symbol: Id::new(5),
+        is_over,
+        power,
+    }
+}
+
+#[test]
+fn a_bound_symbol_stands_for_its_list(rt: HostRuntime) -> Result<(), Fail> {
+    let alloc = rt.alloc();
+    let sum = [
+        Piece::Argument,
+        symbol(Link::Plus, 0, 1),
+        symbol(Link::Plus, 1, 1),
+        Piece::EndOfArgument,
+    ];
+    let square: [&[(u32, i32)]; 4] = [&[(1, 2)], &[(0, 1), (1, 1)], &[(0, 1), (1, 1)], &[(0, 2)]];
+    assert!(rt; is_bound_list(alloc, &sum, wild(false, 2), &square)?);
+    assert!(rt; !is_bound_list(alloc, &sum, wild(true, 1), &[])?);
+    let inverse: [&[(u32, i32)]; 1] = [&[(0, -3)]];
+    let power = [
+        Piece::Argument,
+        symbol(Link::Plus, 0, 3),
+        Piece::EndOfArgument,
+    ];
+    assert!(rt; is_bound_list(alloc, &power, wild(true, 1), &inverse)?);
+    Ok(())
+}
+
+/// The symbol 1 to the power of the wildcard 5, with a minus.
+fn raised() -> Piece {
+    Piece::Raised {
+        link: Link::Plus,
+        base: Base::Symbol(Id::new(1)),
+        by: Exponent {
+            is_over: false,
+            is_minus: true,
+            symbol: Id::new(5),
+        },
+    }
+}
+
+#[test]
+fn a_bound_power_is_a_whole_number(rt: HostRuntime) -> Result<(), Fail> {
+    let alloc = rt.alloc();
+    let three = [
+        Piece::Argument,
+        Piece::Number {
+            link: Link::Plus,
+            value: 3,
+            power: 1,
+        },
+        Piece::EndOfArgument,
+    ];
+    let terms: [&[(u32, i32)]; 1] = [&[(1, -3)]];
+    assert!(rt; is_bound_list(alloc, &three, raised(), &terms)?);
+    let other = [
+        Piece::Argument,
+        symbol(Link::Plus, 0, 1),
+        Piece::EndOfArgument,
+    ];
+    assert!(rt; !is_bound_list(alloc, &other, raised(), &[])?);
+    Ok(())
+}
+
+/// f(?a,?a), with the field 0 standing for x+x, and f being the name 3: its size.
+fn size_with_fields(alloc: Global) -> Result<usize, AllocError> {
+    let sum = [
+        Piece::Argument,
+        symbol(Link::Plus, 0, 1),
+        symbol(Link::Plus, 0, 1),
+        Piece::EndOfArgument,
+    ];
+    let names = field(alloc, &sum)?;
+    let pieces = [
+        Piece::Function {
+            link: Link::Plus,
+            function: Id::new(3),
+            is_commuting: true,
+        },
+        Piece::Field(0),
+        Piece::Field(0),
+        Piece::EndOfFunction { power: 1 },
+    ];
+    let mut list = expand_tree(alloc, &pieces, 9, &names);
+    match list.next(alloc) {
+        Ok(Some(item)) => Ok(item.term.size()),
+        _ => Ok(0),
+    }
+}
+
+/// The field 0 as standing for an argument.
+fn field(alloc: Global, argument: &[Piece]) -> Result<Standing, AllocError> {
+    laws::lawful_pieces();
+    let none = Standing::from_vec(Vec::new(alloc));
+    let mut bindings = Bindings::new(alloc);
+    if let Some(value) = argument_pieces(alloc, argument, 9, &none)? {
+        bindings.push(Wildcard::Field(0), value.pieces())?;
+    }
+    Ok(Standing::bound(alloc, bindings))
+}
+
+#[test]
+fn a_field_stands_for_its_arguments(rt: HostRuntime) -> Result<(), Fail> {
+    let alloc = rt.alloc();
+    assert_eq!(rt; size_with_fields(alloc)?, 7);
+    Ok(())
+}
+
+/// How many terms x and lists behind it give: (x+y)^2 as a whole, y, and (x+y)^2.
+fn terms_of_row(alloc: Global) -> Result<usize, AllocError> {
+    let pieces = square(alloc)?;
+    let none = Standing::from_vec(Vec::new(alloc));
+    let mut parts = Vec::new(alloc);
+    parts.push(Part::List(whole_list(alloc, &pieces, 9, &none)?))?;
+    parts.push(Part::Word(Term::symbol(alloc, Id::new(1), 1)?))?;
+    parts.push(Part::Tree(&pieces, &none))?;
+    let mut row = Row::new(alloc, 16, Monomial::unit(alloc), parts)?;
+    for count in 0..99 {
+        if !matches!(row.next(alloc), Ok(Some(_))) {
+            return Ok(count);
+        }
+    }
+    Ok(99)
+}
+
+#[test]
+fn lists_of_several_kinds_are_paired(rt: HostRuntime) -> Result<(), Fail> {
+    let alloc = rt.alloc();
+    assert_eq!(rt; terms_of_row(alloc)?, 16);
     Ok(())
 }

@@ -1,4 +1,4 @@
-ghost use Rattle.std.specs.Prelude.{◌≡◌, ◌+◌, ◌<◌, ◌^◌, None, OnSome, length};
+ghost use Rattle.std.specs.Prelude.{◌≡◌, ◌+◌, ◌<◌, ◌^◌, Some, None, is_some, OnSome, length};
 ghost use Rattle.form_expand.specs.Listing.{nothing, single, refusal};
 ghost use Rattle.form_expand.specs.Kept.{kept_terms, listing, end_of, ended_by, BeginsAt};
 
@@ -29,7 +29,7 @@ impl Kept<'_> {
     }
 }
 
-/// A list that is there as a whole, with its end.
+/// A list that is there as a whole, with its end: in a clause `listing` says which.
 #[derive(Drop)]
 pub struct Whole<'a> {
     pub kept: Kept<'a>,
@@ -72,6 +72,40 @@ impl Whole<'_> {
             kept: Kept::None,
             end: Some(Refusal { cause }),
         }
+    }
+
+    /// The list of these terms, which is refused behind them.
+    pub fn refused_behind<'a>(terms: Vec<Monomial>, cause: Cause) -> Whole<'a>
+        ensures { listing result ≡ record { terms = terms.items; end = Some cause } }
+    {
+        Whole {
+            kept: Kept::Made(terms),
+            end: Some(Refusal { cause }),
+        }
+    }
+
+    /// The list of these terms, which stay where they are.
+    pub fn of_slice<'a>(terms: &'a [Monomial]) -> Whole<'a>
+        ensures { listing result ≡ record { terms = terms.now; end = None } }
+    {
+        Whole {
+            kept: Kept::Stored(terms),
+            end: None,
+        }
+    }
+
+    /// The terms before its end.
+    pub fn terms(&self) -> &[Monomial]
+        ensures { result.now ≡ (listing self.now).terms }
+    {
+        self.kept.as_slice()
+    }
+
+    /// Whether it is refused behind its last term.
+    pub fn is_refused(&self) -> bool
+        ensures { result ≡ is_some ((listing self.now).end) }
+    {
+        self.end.is_some()
     }
 
     pub fn len(&self) -> usize

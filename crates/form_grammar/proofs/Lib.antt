@@ -5,4 +5,8 @@ pub mod Places
 pub mod Powers
 pub mod Raised
 pub mod Read
+pub mod Remaining
+pub mod Shaped
+pub mod Sites
 pub mod Sound
+pub mod Tested

@@ -3,6 +3,7 @@ use Rattle.std.proofs.Common.{◌≡◌, List, [], ◌∷◌, ◌++◌, Bool, tr
 use Rattle.std.specs.Prelude.{IfOk, IfErr, option_and_then}
 use Rattle.std.proofs.lemmas.List.{append-nil}
 use Rattle.form_ast.specs.declared.expr.Piece.{Piece}
+use Rattle.form_ast.specs.declared.setting.Setting.TheVariants.{Plain}
 use Rattle.form_grammar.specs.declared.error.ReadError.{ReadError}
 use Rattle.form_grammar.specs.declared.error.ReadError.TheVariants.{BadSyntax, Memory}
 use Rattle.form_grammar.specs.declared.reader.Reader.{Reader}
@@ -15,19 +16,19 @@ use Rattle.form_grammar.proofs.Read.{found, none}
 
 -- one terminal further
 pub goes_on : (old new : RightSide) (t : Terminal) → ((rest : List Terminal) → pieces_with old (t ∷ rest) ≡ pieces_with new rest) → (read : List Terminal) → HasRead read old → HasRead (read ++ t ∷ []) new
-goes_on old new t e read h = λ rest. ap (run begun) (append_assoc read (t ∷ []) rest) ∙ h (t ∷ rest) ∙ e rest
+goes_on old new t e read h = λ rest. ap (run Plain begun) (append_assoc read (t ∷ []) rest) ∙ h (t ∷ rest) ∙ e rest
 
-pub step_taken : (r next : Readings) (t : Terminal) (rest : List Terminal) → step r t ≡ Some next → run r (t ∷ rest) ≡ run next rest
+pub step_taken : (r next : Readings) (t : Terminal) (rest : List Terminal) → step Plain r t ≡ Some next → run Plain r (t ∷ rest) ≡ run Plain next rest
 unfolding run
-step_taken r next t rest e = ap (option_and_then (λ s. run s rest)) e
+step_taken r next t rest e = ap (option_and_then (λ s. run Plain s rest)) e
 
-pub step_refused : (r : Readings) (t : Terminal) (rest : List Terminal) → step r t ≡ None → run r (t ∷ rest) ≡ None
+pub step_refused : (r : Readings) (t : Terminal) (rest : List Terminal) → step Plain r t ≡ None → run Plain r (t ∷ rest) ≡ None
 unfolding run
-step_refused r t rest e = ap (option_and_then (λ s. run s rest)) e
+step_refused r t rest e = ap (option_and_then (λ s. run Plain s rest)) e
 
 -- what is read to its end
-read_to_end : (r : RightSide) (read : List Terminal) → HasRead read r → run begun read ≡ pieces_with r []
-read_to_end r read h = ap (run begun) (sym (append-nil read)) ∙ h []
+read_to_end : (r : RightSide) (read : List Terminal) → HasRead read r → run Plain begun read ≡ pieces_with r []
+read_to_end r read h = ap (run Plain begun) (sym (append-nil read)) ∙ h []
 
 pub finish_found : (r : RightSide) (o : Result (List Piece) ReadError) → Gives (λ pieces. pieces) o (pieces_with r []) → IfOk o (λ pieces. (read : List Terminal) → HasRead read r → IsExpr read pieces)
 finish_found r (Ok pieces) e = λ read h. found (Ok pieces) read (read_to_end r read h ∙ e)
@@ -39,11 +40,11 @@ finish_none r (Err BadSyntax) e = λ read h. none (Err BadSyntax) read (read_to_
 finish_none r (Err Memory) e = λ read h. tt
 
 module _ (r next : Reader) (t : Terminal) where
-  pub taken : (has_failed : Bool) → has_failed ≡ false → step (reading_of r) t ≡ Some (reading_of next)
+  pub taken : (has_failed : Bool) → has_failed ≡ false → step Plain (reading_of r) t ≡ Some (reading_of next)
       → (rest : List Terminal) → pieces_with (record { reader = r; has_failed = has_failed }) (t ∷ rest) ≡ pieces_with (record { reader = next; has_failed = has_failed }) rest
   taken has_failed on e rest = rw on (step_taken (reading_of r) (reading_of next) t rest e)
 
-  pub failing : (has_failed : Bool) → has_failed ≡ false → step (reading_of r) t ≡ None
+  pub failing : (has_failed : Bool) → has_failed ≡ false → step Plain (reading_of r) t ≡ None
       → (rest : List Terminal) → pieces_with (record { reader = r; has_failed = has_failed }) (t ∷ rest) ≡ pieces_with (record { reader = next; has_failed = true }) rest
   failing has_failed on e rest = rw on (step_refused (reading_of r) t rest e)
 

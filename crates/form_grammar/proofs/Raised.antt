@@ -1,58 +1,90 @@
--- The last piece as it is changed.
-use Rattle.std.proofs.Common.{◌≡◌, ℕ, suc, ◌-◌, ◌<◌, List, [], ◌∷◌, ◌++◌, length, get_or, set, Option, Some, None, option_map, refl, sym, ap, ◌∙◌, arith}
-use Rattle.std.proofs.lemmas.List.{nil_from_length}
+-- A piece as it is changed, the last one or one that has others behind it.
+use Rattle.std.proofs.Common.{◌≡◌, ℕ, suc, ◌+◌, ◌-◌, ◌<◌, ◌≤◌, Bool, true, false, eqb, cond, List, [], ◌∷◌, ◌++◌, length, get_or, set, Option, Some, None, option_map, Result, Ok, Err, refl, sym, ap, ◌∙◌, arith}
+use Rattle.std.proofs.lemmas.Bool.{eq-eqb, eqb-true, eqb-false}
+use Rattle.std.proofs.lemmas.List.{length-append}
 use Rattle.form_ast.specs.declared.expr.Piece.{Piece}
-use Rattle.form_grammar.specs.declared.reader.Change.{Change}
-use Rattle.form_grammar.specs.Reading.{Reading, changed, changed_reading, with_last}
+use Rattle.form_grammar.specs.declared.effect.Change.{Change}
+use Rattle.form_grammar.specs.declared.error.ReadError.{ReadError}
+use Rattle.form_grammar.specs.declared.error.ReadError.TheVariants.{BadSyntax, Memory}
+use Rattle.form_grammar.specs.Reading.{Reading, Gives, changed, changed_reading, with_change}
 
 option_map_twice : {A B C : Type 0} (f : A → B) (g : B → C) (o : Option A) → option_map g (option_map f o) ≡ option_map (λ x. g (f x)) o
 option_map_twice f g None = refl
 option_map_twice f g (Some x) = refl
 
-pub changed_last : (c : Change) (front : List Piece) (x : Piece) → with_last c (front ++ x ∷ []) ≡ option_map (λ y. front ++ y ∷ []) (changed c x)
-unfolding with_last
-changed_last c [] x = refl
-changed_last c (a ∷ []) x = option_map_twice (λ y. y ∷ []) (λ pieces. a ∷ pieces) (changed c x)
-changed_last c (a ∷ b ∷ front) x = ap (option_map (λ pieces. a ∷ pieces)) (changed_last c (b ∷ front) x) ∙ option_map_twice (λ y. (b ∷ front) ++ y ∷ []) (λ pieces. a ∷ pieces) (changed c x)
+-- a piece with these behind it
+longer : (front tail : List Piece) (x : Piece) → length (front ++ x ∷ tail) ≡ length front + suc (length tail)
+longer front tail x = length-append front (x ∷ tail)
 
-pub changed_nothing : (c : Change) → with_last c [] ≡ None
-unfolding with_last
-changed_nothing c = refl
+pub changed_here : (c : Change) (front tail : List Piece) (x : Piece) → with_change (length tail) c (front ++ x ∷ tail) ≡ option_map (λ y. front ++ y ∷ tail) (changed c x)
+unfolding with_change
+changed_here c [] tail x =
+    ap (λ (b : Bool). cond b (option_map (λ y. y ∷ tail) (changed c x)) (option_map (λ pieces. x ∷ pieces) (with_change (length tail) c tail))) (eq-eqb (length tail) (length tail) refl)
+changed_here c (a ∷ front) tail x =
+    by_test (eqb (length (front ++ x ∷ tail)) (length tail)) refl
+    ∙ ap (option_map (λ pieces. a ∷ pieces)) (changed_here c front tail x)
+    ∙ option_map_twice (λ y. front ++ y ∷ tail) (λ pieces. a ∷ pieces) (changed c x)
+  where
+    by_test : (b : Bool) → eqb (length (front ++ x ∷ tail)) (length tail) ≡ b
+        → cond b (option_map (λ y. y ∷ front ++ x ∷ tail) (changed c a)) (option_map (λ pieces. a ∷ pieces) (with_change (length tail) c (front ++ x ∷ tail)))
+        ≡ option_map (λ pieces. a ∷ pieces) (with_change (length tail) c (front ++ x ∷ tail))
+    by_test false e = refl
+    by_test true e = absurd (omega (arith, longer front tail x, eqb-true (length (front ++ x ∷ tail)) (length tail) e))
 
--- the last piece, at its place
-module _ (c : Change) (x : Piece) where
-  changed_at : (ps : List Piece) (y : Piece) → 0 < length ps → x ≡ get_or ps (length ps - 1) x → changed c x ≡ Some y → with_last c ps ≡ Some (set ps (length ps - 1) y)
-  unfolding with_last
-  changed_at [] y some is e = absurd (omega arith)
-  changed_at (a ∷ []) y some is e = ap (λ z. option_map (λ y. y ∷ []) (changed c z)) (sym is) ∙ ap (option_map (λ y. y ∷ [])) e
-  changed_at (a ∷ b ∷ rest) y some is e =
-      let count : length (a ∷ b ∷ rest) - 1 ≡ suc (length (b ∷ rest) - 1) = omega arith in
-      let here : x ≡ get_or (b ∷ rest) (length (b ∷ rest) - 1) x = is ∙ ap (λ n. get_or (a ∷ b ∷ rest) n x) count in
-      ap (option_map (λ pieces. a ∷ pieces)) (changed_at (b ∷ rest) y (omega arith) here e) ∙ ap (λ n. Some (set (a ∷ b ∷ rest) n y)) (sym count)
+-- so many pieces have no such one
+pub change_missing : (c : Change) (behind : ℕ) (ps : List Piece) → length ps ≤ behind → with_change behind c ps ≡ None
+unfolding with_change
+change_missing c behind [] few = refl
+change_missing c behind (x ∷ rest) few = by_test (eqb (length rest) behind) refl (change_missing c behind rest (omega arith)) where
+  by_test : (b : Bool) → eqb (length rest) behind ≡ b → with_change behind c rest ≡ None
+      → cond b (option_map (λ y. y ∷ rest) (changed c x)) (option_map (λ pieces. x ∷ pieces) (with_change behind c rest)) ≡ None
+  by_test true e h = absurd (omega (arith, few, eqb-true (length rest) behind e))
+  by_test false e h = ap (option_map (λ pieces. x ∷ pieces)) h
 
-  unchanged_at : (ps : List Piece) → 0 < length ps → x ≡ get_or ps (length ps - 1) x → changed c x ≡ None → with_last c ps ≡ None
-  unfolding with_last
-  unchanged_at [] some is e = absurd (omega arith)
-  unchanged_at (a ∷ []) some is e = ap (λ z. option_map (λ y. y ∷ []) (changed c z)) (sym is) ∙ ap (option_map (λ y. y ∷ [])) e
-  unchanged_at (a ∷ b ∷ rest) some is e =
-      let count : length (a ∷ b ∷ rest) - 1 ≡ suc (length (b ∷ rest) - 1) = omega arith in
-      let here : x ≡ get_or (b ∷ rest) (length (b ∷ rest) - 1) x = is ∙ ap (λ n. get_or (a ∷ b ∷ rest) n x) count in
-      ap (option_map (λ pieces. a ∷ pieces)) (unchanged_at (b ∷ rest) (omega arith) here e)
+-- the piece, at its place
+pub change_at : (c : Change) (behind : ℕ) (x : Piece) (ps : List Piece) → behind < length ps → x ≡ get_or ps (length ps - 1 - behind) x
+    → with_change behind c ps ≡ option_map (λ y. set ps (length ps - 1 - behind) y) (changed c x)
+unfolding with_change
+change_at c behind x [] some is = absurd (omega arith)
+change_at c behind x (a ∷ rest) some is = by_test (eqb (length rest) behind) refl (change_at c behind x rest) where
+  by_test : (b : Bool) → eqb (length rest) behind ≡ b
+      → (behind < length rest → x ≡ get_or rest (length rest - 1 - behind) x → with_change behind c rest ≡ option_map (λ y. set rest (length rest - 1 - behind) y) (changed c x))
+      → cond b (option_map (λ y. y ∷ rest) (changed c a)) (option_map (λ pieces. a ∷ pieces) (with_change behind c rest))
+      ≡ option_map (λ y. set (a ∷ rest) (length (a ∷ rest) - 1 - behind) y) (changed c x)
+  by_test true e again =
+      let first : length (a ∷ rest) - 1 - behind ≡ 0 = omega (arith, eqb-true (length rest) behind e) in
+      let here : x ≡ a = is ∙ ap (λ n. get_or (a ∷ rest) n x) first in
+      ap (λ z. option_map (λ y. y ∷ rest) (changed c z)) (sym here) ∙ ap (λ n. option_map (λ y. set (a ∷ rest) n y) (changed c x)) (sym first)
+  by_test false e again =
+      let other : length rest ≡ behind → ⊥ = eqb-false (length rest) behind e in
+      let later : length (a ∷ rest) - 1 - behind ≡ suc (length rest - 1 - behind) = omega (arith, some, other) in
+      let here : x ≡ get_or rest (length rest - 1 - behind) x = is ∙ ap (λ n. get_or (a ∷ rest) n x) later in
+      ap (option_map (λ pieces. a ∷ pieces)) (again (omega (arith, some, other)) here)
+      ∙ option_map_twice (λ y. set rest (length rest - 1 - behind) y) (λ pieces. a ∷ pieces) (changed c x)
+      ∙ ap (λ n. option_map (λ y. set (a ∷ rest) n y) (changed c x)) (sym later)
 
--- what changing the last of so many pieces gives
-module _ (r : Reading) (c : Change) (n : ℕ) (count : n ≡ length r.pieces) where
-  abbrev behind : List Piece → Reading
-  behind pieces = record { pieces = pieces; opened = r.opened; expected = r.expected }
+-- what changing a piece of so many gives
+module _ (r : Reading) (c : Change) (behind n : ℕ) (count : n ≡ length r.pieces) where
+  abbrev with_pieces : List Piece → Reading
+  with_pieces pieces = record { pieces = pieces; opened = r.opened; expected = r.expected }
 
-  pub none_changes : n ≡ 0 → changed_reading c r ≡ None
-  none_changes e = ap (λ ps. option_map behind (with_last c ps)) (nil_from_length r.pieces (sym count ∙ e)) ∙ ap (option_map behind) (changed_nothing c)
+  pub none_changes : n ≤ behind → changed_reading behind c r ≡ None
+  none_changes e = ap (option_map with_pieces) (change_missing c behind r.pieces (omega (arith, count, e)))
 
-  module _ (x : Piece) (some : n ≡ 0 → ⊥) (is : x ≡ get_or r.pieces (n - 1) x) where
-    last : x ≡ get_or r.pieces (length r.pieces - 1) x
-    last = is ∙ ap (λ k. get_or r.pieces (k - 1) x) count
+  module _ (x : Piece) (some : behind < n) (is : x ≡ get_or r.pieces (n - 1 - behind) x) where
+    at_place : with_change behind c r.pieces ≡ option_map (λ y. set r.pieces (n - 1 - behind) y) (changed c x)
+    at_place =
+        change_at c behind x r.pieces (omega (arith, count, some)) (is ∙ ap (λ k. get_or r.pieces (k - 1 - behind) x) count)
+        ∙ ap (λ k. option_map (λ y. set r.pieces (k - 1 - behind) y) (changed c x)) (sym count)
 
-    pub change_fails : changed c x ≡ None → changed_reading c r ≡ None
-    change_fails e = ap (option_map behind) (unchanged_at c x r.pieces (omega (arith, count, some)) last e)
+    pub change_fails : changed c x ≡ None → changed_reading behind c r ≡ None
+    change_fails e = ap (option_map with_pieces) (at_place ∙ ap (option_map (λ y. set r.pieces (n - 1 - behind) y)) e)
 
-    pub change_gives : (y : Piece) → changed c x ≡ Some y → changed_reading c r ≡ Some (behind (set r.pieces (n - 1) y))
-    change_gives y e = ap (option_map behind) (changed_at c x r.pieces y (omega (arith, count, some)) last e) ∙ ap (λ k. Some (behind (set r.pieces (k - 1) y))) (sym count)
+    pub change_gives : (y : Piece) → changed c x ≡ Some y → changed_reading behind c r ≡ Some (with_pieces (set r.pieces (n - 1 - behind) y))
+    change_gives y e = ap (option_map with_pieces) (at_place ∙ ap (option_map (λ y. set r.pieces (n - 1 - behind) y)) e)
+
+    -- changing it gives, or refuses, what changing the reading does
+    pub change_answers : (answer : Result (Unit {0}) ReadError) (y : Piece) → Gives (λ _. y) answer (changed c x) → Gives (λ _. with_pieces (set r.pieces (n - 1 - behind) y)) answer (changed_reading behind c r)
+    change_answers (Ok u) y e = change_gives y e
+    change_answers (Err BadSyntax) y e = change_fails e
+    change_answers (Err Memory) y e = tt

@@ -10,7 +10,7 @@ use Rattle.form_lexer.specs.declared.token.TokenKind.{TokenKind}
 use Rattle.form_lexer.specs.declared.token.TokenKind.TheVariants as kind
 use Rattle.form_base.specs.declared.spot.Spot.{Spot}
 use Rattle.form_grammar.specs.declared.terminal.Terminal.{Terminal}
-use Rattle.form_grammar.specs.declared.terminal.Terminal.TheVariants.{Number, Name, Imaginary, Delta, Sign, Times, Over, Raise, Open, Close, Comma, Period, Equals, Other}
+use Rattle.form_grammar.specs.declared.terminal.Terminal.TheVariants.{Number, Name, Imaginary, Delta, Sign, Times, Over, Raise, Open, Close, Comma, Period, Equals, Question, OpenBrace, CloseBrace, Colon, Other}
 
 -- a mark as the grammar sees it
 abbrev pub mark_terminal : marks.Mark → Terminal
@@ -24,6 +24,10 @@ mark_terminal mark.Close = Close
 mark_terminal mark.Comma = Comma
 mark_terminal mark.Period = Period
 mark_terminal mark.Equals = Equals
+mark_terminal mark.Question = Question
+mark_terminal mark.OpenBrace = OpenBrace
+mark_terminal mark.CloseBrace = CloseBrace
+mark_terminal mark.Colon = Colon
 mark_terminal _ = Other
 
 -- a name of the language: `g_` stands nowhere yet

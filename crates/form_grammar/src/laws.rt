@@ -5,9 +5,9 @@ ghost use Rattle.form_ast.specs.declared.expr.Piece.{Piece};
 ghost use Rattle.form_ast.specs.Syntax.{Sum};
 ghost use Rattle.form_ast.specs.Lawful.{IsLawful};
 ghost use Rattle.form_grammar.specs.declared.terminal.Terminal.{Terminal};
-ghost use Rattle.form_grammar.specs.Grammar.{IsExpr, written_sum};
+ghost use Rattle.form_grammar.specs.Grammar.{IsExpr, IsPatternText, IsRightText, written_sum};
 
-/// Terminals are one right side, with one tree, or none.
+/// Terminals are one right side, with one tree, or none; so too one pattern, and one right side of a pattern.
 pub fn one_tree()
     ensures tree { (terminals : List Terminal) (tree other : Sum) → IsLawful tree → IsLawful other →
         terminals ≡ written_sum tree → terminals ≡ written_sum other → tree ≡ other }
@@ -15,6 +15,15 @@ pub fn one_tree()
         IsExpr terminals pieces → IsExpr terminals others → pieces ≡ others }
     ensures some_or_none { (terminals : List Terminal) →
         ((pieces : List Piece) × IsExpr terminals pieces) ⊎ ((pieces : List Piece) → IsExpr terminals pieces → ⊥) }
+    ensures one_pattern { (terminals : List Terminal) (pieces others : List Piece) →
+        IsPatternText terminals pieces → IsPatternText terminals others → pieces ≡ others }
+    ensures pattern_or_none { (terminals : List Terminal) →
+        ((pieces : List Piece) × IsPatternText terminals pieces) ⊎ ((pieces : List Piece) → IsPatternText terminals pieces → ⊥) }
+    ensures one_right { (pattern : List Piece) (terminals : List Terminal) (pieces others : List Piece) →
+        IsRightText pattern terminals pieces → IsRightText pattern terminals others → pieces ≡ others }
+    ensures right_or_none { (pattern : List Piece) (terminals : List Terminal) →
+        ((pieces : List Piece) × IsRightText pattern terminals pieces)
+        ⊎ ((pieces : List Piece) → IsRightText pattern terminals pieces → ⊥) }
 {
     form_ast::laws::one_tree();
 }

@@ -1,18 +1,23 @@
-//! Reading a right side: which tokens are one, and which tree it is.
+//! Reading right sides and patterns: which tokens are one, and which tree it is.
 #![tactic(auto)]
 
+mod balance;
 mod brackets;
 mod effect;
 mod error;
+mod known;
 pub mod laws;
 mod reader;
 mod right_side;
+mod shape;
 mod terminal;
+mod texts;
+mod weights;
 
 pub use error::ReadError;
-pub use reader::read_expr;
 pub use right_side::RightSide;
 pub use terminal::Terminal;
+pub use texts::{read_expr, read_pattern, read_right};
 
 #[cfg(test)]
 mod tests;

@@ -1,15 +1,16 @@
-ghost use Rattle.std.specs.Prelude.{◌≡◌, map, true, false, Some, None, IfErr, IfOk};
+ghost use Rattle.std.specs.Prelude.{◌≡◌, map};
 ghost use Rattle.std.specs.Vec.Iter.{into_iter_items};
-ghost use Rattle.form_grammar.specs.declared.effect.Effect.TheVariants.{Opens, Encloses, Calls, Closes, Parts, Dots};
-ghost use Rattle.form_grammar.specs.Grammar.{IsExpr};
-ghost use Rattle.form_grammar.specs.Reading.{Gives, Excludes, applied, begun, changed as changed_by, changed_reading, finished, reading_of, room_for, run as run_from, step};
+ghost use Rattle.form_grammar.specs.declared.effect.Effect.TheVariants.{Changes, Opens, Encloses, Calls, Closes, Parts, Dots};
+ghost use Rattle.form_grammar.specs.Reading.{Gives, applied, begun, changed as changed_by, changed_reading, finished, restriction_in, reading_of, room_for, run as run_from, step, with_name as with_name_of, with_number as with_number_of, with_set as with_set_of};
 ghost use Rattle.form_grammar.specs.Terminal.{terminal_of};
 
 use crate::ReadError;
 use crate::brackets::{Bracket, Brackets};
-use crate::effect::{Effect, Expected, Last, effect_of};
+use crate::effect::{Change, Effect, Expected, Last, effect_of, may_end};
 use crate::terminal::Terminal;
-use form_ast::{Expr, Link, Piece};
+use form_ast::{
+    Expr, Link, NameList, NumberList, Piece, Restriction, Setting, SignedNumber, Spelled,
+};
 use form_lexer::Token;
 use std::alloc::Global;
 use std::mem::replace;
@@ -18,9 +19,10 @@ use std::vec::IntoIter;
 /// So many parentheses may be open at a place, those of a power and of arguments with them.
 const MOST_OPEN: usize = 64;
 
-/// A right side while it is read.
+/// A right side or a pattern while it is read.
 #[derive(Drop)]
 pub struct Reader {
+    alloc: Global,
     pieces: Vec<Piece>,
     /// The parentheses that are open.
     opened: Brackets,
@@ -28,49 +30,101 @@ pub struct Reader {
     expected: Expected,
 }
 
-/// What what follows makes of the last piece.
-#[derive(Drop)]
-pub enum Change {
-    /// It is a name, and begins a dot product.
-    Dot,
-    /// It is a name, and has arguments.
-    Call,
-}
-
 /// The first name of a dot product, where the piece is a name.
-fn dotted(piece: Piece) -> Option<Piece>
-    ensures { result ≡ changed_by Change.Dot piece }
+fn dotted(piece: Piece) -> Result<Piece, ReadError>
+    ensures { Gives (λ piece. piece) result (changed_by Change.Dot piece) }
 {
     match piece {
-        Piece::Name(link, name) => Some(Piece::Dot(link, name)),
-        _ => None,
+        Piece::Name(link, name) => Ok(Piece::Dot(link, name)),
+        _ => Err(ReadError::BadSyntax),
     }
 }
 
 /// A name that has arguments, where the piece is a name and doesn't stand behind `/`.
-fn called(piece: Piece) -> Option<Piece>
-    ensures { result ≡ changed_by Change.Call piece }
+fn called(piece: Piece) -> Result<Piece, ReadError>
+    ensures { Gives (λ piece. piece) result (changed_by Change.Call piece) }
 {
     match piece {
-        Piece::Name(link, name) if !matches!(link, Link::Over) => Some(Piece::Call(link, name)),
-        _ => None,
+        Piece::Name(link, name) if !matches!(link, Link::Over) => Ok(Piece::Call(link, name)),
+        _ => Err(ReadError::BadSyntax),
     }
 }
 
-/// Changes a piece, where it may be changed so. Answers whether it may.
-fn change_piece(piece: &mut Piece, change: Change) -> bool
-    ensures changed { result ≡ true → changed_by change piece.old ≡ Some piece.new }
-    ensures unchanged { result ≡ false → changed_by change piece.old ≡ None }
+/// A set restricts a wildcard, where nothing else does.
+fn with_set(restriction: Restriction, set: Spelled) -> Result<Restriction, ReadError>
+    ensures { Gives (λ r. r) result (with_set_of set restriction) }
 {
-    let taken = match change {
-        Change::Dot => dotted(replace(piece, Piece::Comma)),
-        Change::Call => called(replace(piece, Piece::Comma)),
+    match restriction {
+        Restriction::Any => Ok(Restriction::Set(set)),
+        _ => Err(ReadError::BadSyntax),
+    }
+}
+
+/// A further name, where none or names stand before it.
+fn with_name(
+    alloc: Global,
+    restriction: Restriction,
+    name: Spelled,
+) -> Result<Restriction, ReadError>
+    ensures { Gives (λ r. r) result (with_name_of name restriction) }
+{
+    let mut names = match restriction {
+        Restriction::Any => Vec::new(alloc),
+        Restriction::Names(names) => names.into_vec(),
+        Restriction::Set(_) | Restriction::Numbers(_) => return Err(ReadError::BadSyntax),
     };
-    let Some(taken) = taken else {
-        return false;
+    names.push(name)?;
+    Ok(Restriction::Names(NameList::from_vec(names)))
+}
+
+/// A further number, where none or numbers stand before it.
+fn with_number(
+    alloc: Global,
+    restriction: Restriction,
+    number: SignedNumber,
+) -> Result<Restriction, ReadError>
+    ensures { Gives (λ r. r) result (with_number_of number restriction) }
+{
+    let mut numbers = match restriction {
+        Restriction::Any => Vec::new(alloc),
+        Restriction::Numbers(numbers) => numbers.into_vec(),
+        Restriction::Set(_) | Restriction::Names(_) => return Err(ReadError::BadSyntax),
     };
-    *piece = taken;
-    true
+    numbers.push(number)?;
+    Ok(Restriction::Numbers(NumberList::from_vec(numbers)))
+}
+
+/// What restricts a wildcard, where the piece is its mark.
+fn restriction_of(piece: Piece) -> Result<Restriction, ReadError>
+    ensures { Gives (λ r. r) result (restriction_in piece) }
+{
+    match piece {
+        Piece::Marked(restriction) => Ok(restriction),
+        _ => Err(ReadError::BadSyntax),
+    }
+}
+
+/// The piece as what follows changes it.
+fn changed(alloc: Global, piece: Piece, change: Change) -> Result<Piece, ReadError>
+    ensures { Gives (λ piece. piece) result (changed_by change piece) }
+{
+    match change {
+        Change::Dot => dotted(piece),
+        Change::Call => called(piece),
+        Change::Set(set) => Ok(Piece::Marked(with_set(restriction_of(piece)?, set)?)),
+        Change::Name(name) => Ok(Piece::Marked(with_name(alloc, restriction_of(piece)?, name)?)),
+        Change::Number(number) => {
+            Ok(Piece::Marked(with_number(alloc, restriction_of(piece)?, number)?))
+        }
+    }
+}
+
+/// Changes a piece, where it may be changed so.
+fn change_piece(alloc: Global, piece: &mut Piece, change: Change) -> Result<(), ReadError>
+    ensures { Gives (λ _. piece.new) result (changed_by change piece.old) }
+{
+    *piece = changed(alloc, replace(piece, Piece::Comma), change)?;
+    Ok(())
 }
 
 impl Reader {
@@ -78,6 +132,7 @@ impl Reader {
         ensures { reading_of result ≡ begun }
     {
         Reader {
+            alloc,
             pieces: Vec::new(alloc),
             opened: Brackets::new(alloc),
             expected: Expected::Factor(Link::First),
@@ -90,14 +145,23 @@ impl Reader {
         self.opened.len() < MOST_OPEN
     }
 
-    /// Changes the last piece.
-    fn change_last(&mut self, change: Change) -> Result<(), ReadError>
-        ensures { Gives (λ _. reading_of self.new) result (changed_reading change (reading_of self.old)) }
+    /// Changes the piece that has so many behind it.
+    fn change(&mut self, behind: usize, change: Change) -> Result<(), ReadError>
+        ensures { Gives (λ _. reading_of self.new) result (changed_reading behind change (reading_of self.old)) }
     {
         let count = self.pieces.len();
-        if count == 0 || !change_piece(&mut self.pieces[count - 1], change) {
+        if count <= behind {
             return Err(ReadError::BadSyntax);
         }
+        change_piece(self.alloc, &mut self.pieces[count - 1 - behind], change)
+    }
+
+    /// Changes the last piece, behind which this is expected.
+    fn change_last(&mut self, change: Change, expected: Expected) -> Result<(), ReadError>
+        ensures { Gives (λ _. reading_of self.new) result (applied (reading_of self.old) (Changes change expected)) }
+    {
+        self.change(0, change)?;
+        self.expected = expected;
         Ok(())
     }
 
@@ -125,14 +189,14 @@ impl Reader {
         Ok(())
     }
 
-    /// Opens the arguments of the last name.
-    fn call(&mut self) -> Result<(), ReadError>
-        ensures { Gives (λ _. reading_of self.new) result (applied (reading_of self.old) Calls) }
+    /// Opens the arguments of the last name, which has a mark or not.
+    fn call(&mut self, is_marked: bool) -> Result<(), ReadError>
+        ensures { Gives (λ _. reading_of self.new) result (applied (reading_of self.old) (Calls is_marked)) }
     {
         if !self.has_room() {
             return Err(ReadError::BadSyntax);
         }
-        self.change_last(Change::Call)?;
+        self.change(usize::from(is_marked), Change::Call)?;
         self.opened.push(Bracket::Arguments)?;
         self.expected = Expected::Argument;
         Ok(())
@@ -160,15 +224,15 @@ impl Reader {
             return Err(ReadError::BadSyntax);
         }
         self.pieces.push(Piece::Comma)?;
-        self.expected = Expected::Factor(Link::First);
+        self.expected = Expected::FurtherArgument;
         Ok(())
     }
 
-    /// Begins a dot product with the last name.
-    fn dot(&mut self) -> Result<(), ReadError>
-        ensures { Gives (λ _. reading_of self.new) result (applied (reading_of self.old) Dots) }
+    /// Begins a dot product with the last name, which has a mark or not.
+    fn dot(&mut self, is_marked: bool) -> Result<(), ReadError>
+        ensures { Gives (λ _. reading_of self.new) result (applied (reading_of self.old) (Dots is_marked)) }
     {
-        self.change_last(Change::Dot)?;
+        self.change(usize::from(is_marked), Change::Dot)?;
         self.expected = Expected::Vector;
         Ok(())
     }
@@ -182,54 +246,45 @@ impl Reader {
                 self.pieces.push(piece)?;
                 self.expected = expected;
             }
+            Effect::Changes(change, expected) => self.change_last(change, expected)?,
             Effect::Opens(link) => self.open(link)?,
             Effect::Encloses(expected) => self.enclose(expected)?,
-            Effect::Calls => self.call()?,
+            Effect::Calls(is_marked) => self.call(is_marked)?,
             Effect::Closes => self.close()?,
             Effect::Parts => self.part()?,
-            Effect::Dots => self.dot()?,
+            Effect::Dots(is_marked) => self.dot(is_marked)?,
             Effect::Fails => return Err(ReadError::BadSyntax),
         }
         Ok(())
     }
 
     /// Goes one terminal further.
-    pub fn take(&mut self, terminal: Terminal) -> Result<(), ReadError>
-        ensures { Gives (λ _. reading_of self.new) result (step (reading_of self.old) terminal) }
+    pub fn take(&mut self, setting: Setting, terminal: Terminal) -> Result<(), ReadError>
+        ensures { Gives (λ _. reading_of self.new) result (step setting (reading_of self.old) terminal) }
     {
-        self.apply(effect_of(self.expected, terminal))
+        self.apply(effect_of(setting, self.expected, terminal))
     }
 
-    /// The right side, where it is complete.
+    /// All of it, where it is complete.
     pub fn finish(self) -> Result<Expr, ReadError>
         ensures { Gives (λ expr. expr) result (finished (reading_of self)) }
     {
-        match self.expected {
-            Expected::Operator(_) if self.opened.len() == 0 => {
-                let Reader { pieces, .. } = self;
-                Ok(Expr::from_vec(pieces))
-            }
-            _ => Err(ReadError::BadSyntax),
+        if !may_end(self.expected) || self.opened.len() != 0 {
+            return Err(ReadError::BadSyntax);
         }
+        let Reader { pieces, .. } = self;
+        Ok(Expr::from_vec(pieces))
     }
 }
 
-/// The right side that the tokens are, as reading goes on to it.
+/// What the tokens are in this setting, as reading goes on to it.
 #[tactic(auto, unfolding(crate::specs::Reading::run))]
-fn run(alloc: Global, tokens: IntoIter<Token>) -> Result<Expr, ReadError>
-    ensures { Gives (λ expr. expr) result (run_from begun (map terminal_of (into_iter_items tokens))) }
+pub fn run(alloc: Global, setting: Setting, tokens: IntoIter<Token>) -> Result<Expr, ReadError>
+    ensures { Gives (λ expr. expr) result (run_from setting begun (map terminal_of (into_iter_items tokens))) }
 {
     let mut reader = Reader::new(alloc);
     for token in tokens {
-        reader.take(Terminal::from(token))?;
+        reader.take(setting, Terminal::from(token))?;
     }
     reader.finish()
-}
-
-/// The right side that the tokens are.
-pub fn read_expr(alloc: Global, tokens: IntoIter<Token>) -> Result<Expr, ReadError>
-    ensures found { IfOk result (λ expr. IsExpr (map terminal_of (into_iter_items tokens)) expr) }
-    ensures none { IfErr result (λ error. Excludes error (IsExpr (map terminal_of (into_iter_items tokens)))) }
-{
-    run(alloc, tokens)
 }

@@ -8,7 +8,7 @@ ghost use Rattle.form_grammar.specs.Reading.{Excludes};
 use crate::ReadError;
 use crate::reader::Reader;
 use crate::terminal::Terminal;
-use form_ast::Expr;
+use form_ast::{Expr, Setting};
 use std::alloc::{AllocError, Global};
 
 /// A right side up to some token.
@@ -36,7 +36,7 @@ impl RightSide {
         if self.has_failed {
             return Ok(());
         }
-        match self.reader.take(terminal) {
+        match self.reader.take(Setting::Plain, terminal) {
             Ok(()) => Ok(()),
             Err(ReadError::BadSyntax) => {
                 self.has_failed = true;

@@ -24,6 +24,11 @@ pub enum Terminal {
     Comma,
     Period,
     Equals,
+    /// The mark of a wildcard, or of a field.
+    Question,
+    OpenBrace,
+    CloseBrace,
+    Colon,
     /// A token that stands nowhere in the grammar.
     Other,
 }
@@ -43,6 +48,10 @@ fn mark_terminal(mark: Mark) -> Terminal
         Mark::Comma => Terminal::Comma,
         Mark::Period => Terminal::Period,
         Mark::Equals => Terminal::Equals,
+        Mark::Question => Terminal::Question,
+        Mark::OpenBrace => Terminal::OpenBrace,
+        Mark::CloseBrace => Terminal::CloseBrace,
+        Mark::Colon => Terminal::Colon,
         _ => Terminal::Other,
     }
 }

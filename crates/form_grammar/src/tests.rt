@@ -1,7 +1,7 @@
-//! Right sides against pieces that are written out by hand.
+//! Right sides and patterns against pieces that are written out by hand.
 
-use crate::{ReadError, RightSide, Terminal, read_expr};
-use form_ast::{Link, Piece};
+use crate::{ReadError, RightSide, Terminal, read_expr, read_pattern, read_right};
+use form_ast::{Expr, Link, Piece};
 use form_base::Spot;
 use form_lexer::{Token, lex};
 use std::alloc::{AllocError, Global};
@@ -44,13 +44,16 @@ fn letters(piece: &Piece) -> (char, char) {
         Piece::Close => ('.', ')'),
         Piece::Raised(true, _, _) => ('.', '%'),
         Piece::Raised(false, _, _) => ('.', '^'),
+        Piece::RaisedByName(_, _) => ('.', '~'),
+        Piece::Marked(_) => ('.', '?'),
+        Piece::Field(_) => ('.', '='),
     }
 }
 
-/// The characters of a right side's pieces, and nothing where the line isn't one.
-fn pieces_of(alloc: Global, line: &str) -> Result<String, Fail> {
+/// The characters of the pieces that are read, and nothing where the text isn't in the grammar.
+fn shown(alloc: Global, read: Result<Expr, ReadError>) -> Result<String, Fail> {
     let mut pieces = String::new(alloc);
-    match read_expr(alloc, tokens_of(alloc, line)?.into_iter()) {
+    match read {
         Ok(expr) => {
             for piece in expr.as_slice() {
                 let (l, kind) = letters(piece);
@@ -61,6 +64,34 @@ fn pieces_of(alloc: Global, line: &str) -> Result<String, Fail> {
         }
         Err(ReadError::BadSyntax) => Ok(pieces),
         Err(ReadError::Memory) => Err(Fail::from("no memory")),
+    }
+}
+
+/// A right side's pieces.
+fn pieces_of(alloc: Global, line: &str) -> Result<String, Fail> {
+    shown(alloc, read_expr(alloc, tokens_of(alloc, line)?.into_iter()))
+}
+
+/// A pattern's pieces.
+fn pattern_of(alloc: Global, line: &str) -> Result<String, Fail> {
+    shown(
+        alloc,
+        read_pattern(alloc, tokens_of(alloc, line)?.into_iter()),
+    )
+}
+
+/// The pieces of a right side with this pattern.
+fn right_of(alloc: Global, pattern: &str, line: &str) -> Result<String, Fail> {
+    match read_pattern(alloc, tokens_of(alloc, pattern)?.into_iter()) {
+        Ok(pattern) => shown(
+            alloc,
+            read_right(
+                alloc,
+                tokens_of(alloc, line)?.into_iter(),
+                pattern.as_slice(),
+            ),
+        ),
+        Err(_) => Err(Fail::from("no pattern")),
     }
 }
 
@@ -130,5 +161,65 @@ fn reads_a_right_side_as_its_tokens_come(rt: HostRuntime) -> Result<(), Fail> {
         right_side.take(Terminal::from(token))?;
     }
     assert!(rt; matches!(&right_side.finish(), Ok(_)));
+    Ok(())
+}
+
+#[test]
+fn reads_patterns(rt: HostRuntime) -> Result<(), Fail> {
+    let alloc = rt.alloc();
+    assert_eq!(rt; pattern_of(alloc, "x?^2*y")?.as_str(), "1a.?.^*a");
+    assert_eq!(rt;
+        pattern_of(alloc, "f?{f,g}(?a,x?s*y^n?{-1,2},2*y)")?.as_str(),
+        "1f.?.=.,1a.?*a.~.?.,1n*a.;"
+    );
+    assert_eq!(rt;
+        pattern_of(alloc, "p?.q?*d_(mu?,2)*i_")?.as_str(),
+        "1p.?.q.?*d.i.?.j.e*a"
+    );
+    Ok(())
+}
+
+#[test]
+fn reads_no_other_patterns(rt: HostRuntime) -> Result<(), Fail> {
+    let lines = [
+        "2*x",
+        "x/y",
+        "-x",
+        "x+y",
+        "(x)",
+        "x?^0",
+        "x*x^-1",
+        "p.q*q.p^-1",
+        "x^n?*x",
+        "p.q^n?",
+        "x^-n?",
+        "x^n",
+        "i_?",
+        "x?{1,a}",
+        "x?{}",
+        "f(x?+1)",
+        "f(2*x?)",
+        "f(x?^0)",
+        "f(g(x?)/y)",
+        "?a",
+        "f(?)",
+    ];
+    for line in lines {
+        assert_eq!(rt; pattern_of(rt.alloc(), line)?.as_str(), "");
+    }
+    Ok(())
+}
+
+#[test]
+fn reads_right_sides_of_patterns(rt: HostRuntime) -> Result<(), Fail> {
+    let alloc = rt.alloc();
+    let pattern = "f(?a)*x^n?";
+    assert_eq!(rt;
+        right_of(alloc, pattern, "n*x^n/y^-n*g(?a,2)")?.as_str(),
+        "1a*a.~/a.~*f.=.,1n.;"
+    );
+    assert_eq!(rt; right_of(alloc, pattern, "x^m")?.as_str(), "");
+    assert_eq!(rt; right_of(alloc, pattern, "f(?b)")?.as_str(), "");
+    assert_eq!(rt; right_of(alloc, pattern, "x?")?.as_str(), "");
     Ok(())
 }

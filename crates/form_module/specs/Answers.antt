@@ -1,5 +1,5 @@
 -- What the parts of a module's call answer, and what errors of the calls below become.
-use Rattle.std.specs.Prelude.{◌≡◌, ℕ, List, Result, Ok, Err, Vec}
+use Rattle.std.specs.Prelude.{◌≡◌, ℕ, List, ◌++◌, Some, None, Result, Ok, Err, Vec}
 use Rattle.std.specs.declared.alloc.Global.{Global}
 use Rattle.form_base.specs.declared.cause.Cause.{Cause}
 use Rattle.form_base.specs.declared.cause.Cause.TheVariants.{Overflow}
@@ -8,9 +8,18 @@ use Rattle.form_collect.specs.declared.collector.CollectError.TheVariants as col
 use Rattle.form_expand.specs.declared.error.ExpandError as expand
 use Rattle.form_expand.specs.declared.error.ExpandError.TheVariants as expands
 use Rattle.form_base.specs.declared.settings.Settings.{Settings}
+use Rattle.form_term.specs.declared.monomial.Monomial.{Monomial}
+use Rattle.form_collect.specs.Collector.{IsCollectionOf}
+use Rattle.form_collect.specs.declared.collector.Collector.{Collector}
 use Rattle.form_check.specs.declared.checked.Checked.{Checked}
 use Rattle.form_expand.specs.declared.stored.Stored.{Stored}
-use Rattle.form_module.specs.Module.{Defined, AreTrees, definitions_of, results}
+use Rattle.form_expand.specs.Listing.{Listing}
+use Rattle.form_expand.specs.Meanings.{Meanings}
+use Rattle.form_flow.specs.Groups.{groups_of}
+use Rattle.form_flow.specs.Parts.{AreParts}
+use Rattle.form_flow.specs.Rewriting.{Part}
+use Rattle.form_module.specs.Module.{AreTrees, Refusal, Worked, results}
+use Rattle.form_module.specs.Works.{works_of}
 use Rattle.form_module.specs.declared.error.ModuleError as module_error
 use Rattle.form_module.specs.declared.error.ModuleError.TheVariants as module_errors
 use Rattle.form_module.specs.declared.result_error.ResultError.{ResultError}
@@ -39,10 +48,24 @@ abbrev pub Gives : {X Y : Type 0} → (X → Y) → Result X ResultError → Res
 Gives view (Ok x) meant = meant ≡ Ok (view x)
 Gives view (Err e) meant = IsRefused e meant
 
--- The definitions of a module were carried out: their results, or the first refusal, unless memory ran out.
-abbrev pub AreCarriedOut : Settings → List Checked → List Stored → Result (Vec Stored Global) module_error.ModuleError → Type 0
-AreCarriedOut settings statements standing (Ok made) =
-    (trees : List Defined) × AreTrees (definitions_of statements) trees × (results settings standing trees ≡ Ok made.items)
-AreCarriedOut settings statements standing (Err (module_errors.Refused cause expression)) =
-    (trees : List Defined) × AreTrees (definitions_of statements) trees × (results settings standing trees ≡ Err (record { cause = cause; expression = expression }))
-AreCarriedOut settings statements standing (Err module_errors.Memory) = Unit {0}
+-- A list was added to a collector, or a refusal ends it; nothing is said where memory ran out.
+abbrev pub IsAdded : Listing → Collector → Collector → Result Unit ResultError → Type 0
+IsAdded l old new (Ok u) = (l.end ≡ None) × ((list : List Monomial) → IsCollectionOf old list → IsCollectionOf new (list ++ l.terms))
+IsAdded l old new (Err (Refused cause)) = l.end ≡ Some cause
+IsAdded l old new (Err Memory) = Unit {0}
+
+-- What a module makes of what is carried out, by what names stand for at its start, and by the trees of its statements and
+-- its right sides.
+pub record AreResults (settings : Settings) (statements : List Checked) (names : Meanings) (made : Result (List Stored) Refusal) : Type 0 where
+  pub parts : List (List Part)
+  pub are_parts : AreParts (groups_of statements) parts
+  pub works : List Worked
+  pub are_works : AreTrees (works_of statements names.stored) works
+  pub carried : results settings parts names works ≡ made
+
+-- A module was carried out: its results, or the first refusal, unless memory ran out.
+abbrev pub AreCarriedOut : Settings → List Checked → Meanings → Result (Vec Stored Global) module_error.ModuleError → Type 0
+AreCarriedOut settings statements names (Ok made) = AreResults settings statements names (Ok made.items)
+AreCarriedOut settings statements names (Err (module_errors.Refused cause expression)) =
+    AreResults settings statements names (Err (record { cause = cause; expression = expression }))
+AreCarriedOut settings statements names (Err module_errors.Memory) = Unit {0}

@@ -4,7 +4,7 @@ ghost use Rattle.std.specs.Prelude.{◌≡◌, ℕ, false, ◌==◌, ◌||◌, O
 ghost use Rattle.std.specs.List.{list_any};
 ghost use Rattle.form_check.specs.Standing.{means};
 ghost use Rattle.form_module.specs.Printed.{is_print, prints};
-ghost use Rattle.form_module.specs.Sets.{has, is_change};
+ghost use Rattle.form_module.specs.Sets.{has, is_change, is_held};
 
 use form_base::Id;
 use form_check::{Checked, Module, Selection};
@@ -63,7 +63,8 @@ impl ExpressionSet {
     {
         match statement {
             Checked::Print(which) => self.add_selected(which),
-            Checked::Drop(_) | Checked::Skip(_) | Checked::Local(_, _) => Ok(()),
+            Checked::Drop(_) | Checked::Skip(_) | Checked::Local(_, _) | Checked::Rewrite(_, _) =>
+                Ok(()),
         }
     }
 
@@ -74,7 +75,18 @@ impl ExpressionSet {
         match statement {
             Checked::Drop(which) => self.add_selected(which),
             Checked::Local(expression, _) => self.add(*expression),
-            Checked::Skip(_) | Checked::Print(_) => Ok(()),
+            Checked::Skip(_) | Checked::Rewrite(_, _) | Checked::Print(_) => Ok(()),
+        }
+    }
+
+    /// Adds what a statement drops or skips.
+    fn add_held(&mut self, statement: &Checked) -> Result<(), AllocError>
+        ensures { OnOk result ((e : ℕ) → has self.new e ≡ (has self.old e || is_held e statement.now)) }
+    {
+        match statement {
+            Checked::Drop(dropped) => self.add_selected(dropped),
+            Checked::Skip(skipped) => self.add_selected(skipped),
+            Checked::Local(_, _) | Checked::Rewrite(_, _) | Checked::Print(_) => Ok(()),
         }
     }
 }
@@ -97,6 +109,17 @@ pub fn changed(alloc: Global, statements: &[Checked]) -> Result<ExpressionSet, A
     let mut set = ExpressionSet::new(alloc);
     for statement in statements {
         set.add_changed(statement)?;
+    }
+    Ok(set)
+}
+
+/// The expressions that statements drop or skip.
+pub fn held(alloc: Global, statements: &[Checked]) -> Result<ExpressionSet, AllocError>
+    ensures { IfOk result (λ set. (e : ℕ) → has set e ≡ list_any (is_held e) statements.now) }
+{
+    let mut set = ExpressionSet::new(alloc);
+    for statement in statements {
+        set.add_held(statement)?;
     }
     Ok(set)
 }

@@ -6,7 +6,7 @@ ghost use Rattle.form_check.specs.declared.checked.Checked.{Checked};
 ghost use Rattle.form_expand.specs.declared.stored.Stored.{Stored};
 ghost use Rattle.form_module.specs.Module.{HaveTrees, IsModuleOutcome, Refusal};
 
-/// A module whose right sides are those of the grammar has exactly one outcome.
+/// A module whose right sides and patterns are those of the grammar has exactly one outcome.
 pub fn one_module_outcome()
     ensures some { (settings : Settings) (statements : List Checked) (standing : List Stored) → HaveTrees statements →
         (outcome : Result (List Stored) Refusal) × IsModuleOutcome settings statements standing outcome }
@@ -16,4 +16,5 @@ pub fn one_module_outcome()
         IsModuleOutcome settings statements standing other → outcome ≡ other }
 {
     form_tree::laws::one_tree();
+    form_tree::laws::one_pattern();
 }

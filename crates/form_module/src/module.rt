@@ -3,14 +3,18 @@ ghost use Rattle.form_base.specs.declared.cause.Cause.{Cause};
 ghost use Rattle.form_module.specs.Answers.{AreCarriedOut};
 ghost use Rattle.form_module.specs.Kept.{as_stored, is_kept};
 ghost use Rattle.form_module.specs.Module.{HaveTrees, IsModuleOutcome, with_expression};
+ghost use Rattle.form_module.specs.Places.{work_at};
+ghost use Rattle.form_module.specs.Works.{works_of};
+ghost use Rattle.form_flow.specs.Groups.{groups_of};
 
 use crate::ModuleError;
 use crate::expression_set::{ExpressionSet, changed};
 use crate::result::result_of;
-use crate::right_sides::{definitions, right_side};
+use crate::works::{inputs, works};
 use form_base::{Id, Settings};
 use form_check::{Checked, Module};
 use form_expand::{Standing, Stored, Terms};
+use form_flow::CompiledModule;
 use std::alloc::{AllocError, Global};
 use std::collections::BTreeMap;
 
@@ -30,8 +34,10 @@ pub fn run_module(
         (Err (record { cause = cause; expression = expression })) }
 {
     let statements = carried.as_slice();
+    let compiled = CompiledModule::new(alloc, settings.max_expand, statements)?;
+    let works = works(alloc, statements, !compiled.is_empty(), &standing)?;
     let standing = Standing::from_vec(standing);
-    let results = carry_out(alloc, settings, statements, &standing)?;
+    let results = carry_out(alloc, settings, statements, &compiled, &standing, works)?;
     let changed = changed(alloc, statements)?;
     let mut after = BTreeMap::new(alloc);
     keep(&mut after, &changed, standing.into_vec())?;
@@ -39,19 +45,31 @@ pub fn run_module(
     Ok(listed(alloc, after)?)
 }
 
-/// The results of a module's definitions.
+/// The results of what a module carries out.
 fn carry_out(
     alloc: Global,
     settings: &Settings,
     statements: &[Checked],
+    compiled: &CompiledModule,
     standing: &Standing,
+    works: BTreeMap<Id, Option<usize>>,
 ) -> Result<Vec<Stored>, ModuleError>
-    requires { HaveTrees statements.now }
+    requires trees { HaveTrees statements.now }
+    requires compiled { compiled.now ≡ record { limit = settings.now.max_expand; groups = groups_of statements.now } }
+    requires works { map (work_at statements.now) works.entries ≡ works_of statements.now standing.now.stored }
     ensures { AreCarriedOut settings.now statements.now standing.now result }
 {
     let mut results = Vec::new(alloc);
-    for (expression, place) in definitions(alloc, statements)? {
-        match result_of(alloc, settings, right_side(statements, place), standing) {
+    for (expression, place) in works {
+        let inputs = inputs(
+            alloc,
+            settings.max_expand,
+            statements,
+            standing,
+            expression,
+            place,
+        );
+        match result_of(alloc, settings, compiled, inputs) {
             Ok(terms) => results.push(Stored { expression, terms })?,
             Err(error) => return Err(error.at(expression)),
         }

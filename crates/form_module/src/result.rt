@@ -1,43 +1,86 @@
-ghost use Rattle.std.specs.Prelude.{◌≡◌};
-ghost use Rattle.form_tree.specs.Tree.{Sum, pieces_of_sum};
-ghost use Rattle.form_module.specs.Answers.{Gives};
-ghost use Rattle.form_module.specs.Module.{result_of as result_meant, unless_ended};
+ghost use Rattle.std.specs.Prelude.{List};
+ghost use Rattle.form_flow.specs.Left.{groups_in, outputs_left};
+ghost use Rattle.form_flow.specs.Parts.{AreParts};
+ghost use Rattle.form_flow.specs.Rewriting.{Part, through};
+ghost use Rattle.form_module.specs.Answers.{Gives, IsAdded};
+ghost use Rattle.form_module.specs.Inputs.{inputs_left};
+ghost use Rattle.form_module.specs.Module.{collected_list, made_of, result_of as result_meant};
 
+use crate::inputs::Inputs;
 use crate::result_error::ResultError;
 use form_base::{Cause, Settings};
 use form_collect::Collector;
-use form_expand::{Expansion, Standing, Terms, expand_tree};
+use form_expand::Terms;
+use form_flow::{CompiledModule, Outputs};
 use form_term::Monomial;
-use form_tree::Piece;
 use std::alloc::Global;
 
-/// The collected terms of a right side, over the expressions that stand.
+/// What the statements make of inputs, collected.
 pub fn result_of(
     alloc: Global,
     settings: &Settings,
-    right_side: &[Piece],
-    standing: &Standing,
+    statements: &CompiledModule,
+    inputs: Inputs,
 ) -> Result<Terms, ResultError>
-    ensures { (tree : Sum) → right_side.now ≡ pieces_of_sum tree →
-        Gives (λ terms. terms) result (result_meant settings.now standing.now tree) }
+    ensures { (pss : List (List Part)) → AreParts statements.now.groups pss →
+        Gives (λ terms. terms) result (result_meant statements.now.limit settings.now.max_terms pss (inputs_left inputs.entry)) }
 {
-    let list = expand_tree(alloc, right_side, settings.max_expand, standing);
-    let terms = collect(alloc, list)?;
+    let terms = collect(alloc, statements, inputs)?;
     if terms.len() as u64 > settings.max_terms {
         return Err(ResultError::Refused(Cause::TermLimit));
     }
     Ok(Terms::from_vec(terms))
 }
 
-/// What a list collects to, where it comes to its end.
-fn collect(alloc: Global, mut list: Expansion) -> Result<Vec<Monomial>, ResultError>
-    ensures { Gives (λ terms. terms.items) result (unless_ended list.entry.end list.entry.terms) }
+/// What the statements make of inputs comes to, where all come to their end.
+fn collect(
+    alloc: Global,
+    statements: &CompiledModule,
+    mut inputs: Inputs,
+) -> Result<Vec<Monomial>, ResultError>
+    ensures { (pss : List (List Part)) → AreParts statements.now.groups pss →
+        Gives (λ terms. terms.items) result (collected_list (through (made_of statements.now.limit pss) (inputs_left inputs.entry))) }
 {
     let mut collector = Collector::new(alloc);
-    for _ in 0..u64::MAX {
-        match list.next(alloc)? {
-            Some(item) => collector.add(item)?,
+    for _made in 0..u64::MAX {
+        match inputs.next(alloc)? {
+            Some(item) => add(alloc, statements, item, &mut collector)?,
             None => return Ok(collector.into_terms()?),
+        }
+    }
+    Err(ResultError::Memory)
+}
+
+/// Adds what the statements make of a term.
+fn add(
+    alloc: Global,
+    statements: &CompiledModule,
+    item: Monomial,
+    collector: &mut Collector,
+) -> Result<(), ResultError>
+    ensures { (pss : List (List Part)) → AreParts statements.now.groups pss →
+        IsAdded (made_of statements.now.limit pss item) collector.old collector.new result }
+{
+    if statements.is_empty() {
+        collector.add(item)?;
+        return Ok(());
+    }
+    add_all(alloc, statements.outputs(alloc, item), collector)
+}
+
+/// Adds all outputs that are left.
+fn add_all(
+    alloc: Global,
+    mut outputs: Outputs,
+    collector: &mut Collector,
+) -> Result<(), ResultError>
+    ensures { (pss : List (List Part)) → AreParts (groups_in outputs.entry) pss →
+        IsAdded (outputs_left outputs.entry pss) collector.old collector.new result }
+{
+    for _made in 0..u64::MAX {
+        match outputs.next(alloc)? {
+            Some(item) => collector.add(item)?,
+            None => return Ok(()),
         }
     }
     Err(ResultError::Memory)

@@ -1,14 +1,17 @@
-//! What is dropped goes and what is defined stands, over what stood before; and a refusal is at its expression.
-ghost use Rattle.std.specs.Prelude.{◌≡◌, IfOk};
+//! What is dropped goes and what is defined stands, over what stood before, all of it gone through the statements; and a
+//! refusal is at its expression.
+ghost use Rattle.std.specs.Prelude.{◌≡◌, IfOk, false};
 ghost use Rattle.form_tree.specs.Tree.{Sum, pieces_of_sum};
-ghost use Rattle.form_module.specs.Module.{HaveTrees};
+ghost use Rattle.form_check.specs.declared.checked.Checked.TheVariants.{Rewrite};
+ghost use Rattle.form_module.specs.Module.{HasTree, HaveTrees};
 
 use crate::{ModuleError, printed, run_module};
 use form_base::{Id, Settings};
-use form_check::{Checked, IdList, Module, Selection};
+use form_check::{Checked, IdList, Module, Rewriting, Selection};
 use form_expand::{Stored, Terms};
-use form_term::Monomial;
-use form_tree::{Link, Piece, Tree};
+use form_frac::Frac;
+use form_term::{Monomial, Term};
+use form_tree::{Link, Name, Pattern, PatternPiece, Piece, Tree};
 use std::alloc::{AllocError, Global};
 use std::test::Fail;
 
@@ -32,29 +35,51 @@ fn right_side(alloc: Global, value: u128, power: i32) -> Result<Tree, AllocError
     Ok(Tree::from_vec(pieces))
 }
 
+/// What puts 1 in for the symbol 0.
+fn rewriting(alloc: Global) -> Result<Rewriting, AllocError>
+    ensures { IfOk result (λ r. HasTree (Rewrite false r)) }
+{
+    let mut pieces = Vec::new(alloc);
+    pieces.push(PatternPiece::Symbol(Name::Itself(Id::new(0)), 1))?;
+    let one = Piece::Number {
+        link: Link::Plus,
+        value: 1,
+        power: 1,
+    };
+    Ok(Rewriting {
+        option: None,
+        pattern: Pattern::from_parts(pieces, Vec::new(alloc)),
+        right: Tree::from_vec(Vec::from_slice(alloc, &[one])?),
+    })
+}
+
 fn named(alloc: Global, position: u32) -> Result<Selection, AllocError> {
     let mut ids = Vec::new(alloc);
     ids.push(Id::new(position))?;
     Ok(Selection::Named(IdList::from_vec(ids)))
 }
 
-/// A module that drops expression 7, defines 4 by that right side, and prints 4.
+/// A module that drops expression 7, defines 4 by that right side, puts 1 in for the symbol 0, and prints 4.
 fn module_of(alloc: Global, value: u128, power: i32) -> Result<Module, AllocError>
     ensures { IfOk result HaveTrees }
 {
     let mut statements = Vec::new(alloc);
     statements.push(Checked::Drop(named(alloc, 7)?))?;
     statements.push(Checked::Local(Id::new(4), right_side(alloc, value, power)?))?;
+    statements.push(Checked::Rewrite(false, rewriting(alloc)?))?;
     statements.push(Checked::Print(named(alloc, 4)?))?;
     Ok(Module::from_vec(statements))
 }
 
-/// Expressions 7 and 2, each of them 1.
+/// Expressions 7 and 2, each of them the symbol 0.
 fn standing(alloc: Global) -> Result<Vec<Stored>, AllocError> {
     let mut all = Vec::new(alloc);
     for position in [7, 2] {
         let mut terms = Vec::new(alloc);
-        terms.push(Monomial::unit(alloc))?;
+        terms.push(Monomial {
+            coefficient: Frac::one(),
+            term: Term::symbol(alloc, Id::new(0), 1)?,
+        })?;
         all.push(Stored {
             expression: Id::new(position),
             terms: Terms::from_vec(terms),

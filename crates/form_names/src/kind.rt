@@ -17,4 +17,6 @@ pub enum Kind {
     Function,
     CommutingFunction,
     Expression,
+    /// A set of names or numbers, for wildcards.
+    Set,
 }

@@ -1,7 +1,7 @@
-ghost use Rattle.std.specs.Prelude.{◌≡◌, ◌<◌, ◌-◌, ◌^◌, ◌++◌, [], ◌∷◌, None, Some, Err, IfOk, IfSome, OnOk, OnErr, length};
-ghost use Rattle.form_names.specs.Names.{lookup, kind_at, dimension_at, name_at, declare, IsKind, IsDimension};
+ghost use Rattle.std.specs.Prelude.{◌≡◌, ◌<◌, ◌-◌, ◌^◌, ◌++◌, [], ◌∷◌, None, Some, Err, IfOk, IfSome, OnOk, OnErr, length, option_copied};
+ghost use Rattle.form_names.specs.Names.{lookup, kind_at, dimension_of, dimension_at, elements_at, name_at, declare, declare_set, has_elements, entry_of, IsKind, IsDimension, AreElements, IsLawful};
 
-use crate::{Dimension, Kind};
+use crate::{Dimension, Elements, Facts, Kind};
 use form_base::{Id, Name};
 use indexmap::IndexMap;
 use std::alloc::{AllocError, Global};
@@ -29,7 +29,7 @@ impl From<AllocError> for DeclareError {
 /// The names of a program: a list in order of declaration, in which an `Id` is a position.
 #[derive(Drop)]
 pub struct Names {
-    kinds: IndexMap<String, Kind>,
+    facts: IndexMap<String, Facts>,
 }
 
 impl Model for Names {
@@ -38,9 +38,9 @@ impl Model for Names {
 
     ghost Value = { List Entry };
 
-    ghost view = { λ names. entries_of names.kinds.entries };
+    ghost view = { λ names. entries_of names.facts.entries };
 
-    ghost invariant = { λ names. (length (entries_of names.kinds.entries) < 2 ^ 32) × AreLawful (entries_of names.kinds.entries) };
+    ghost invariant = { λ names. (length (entries_of names.facts.entries) < 2 ^ 32) × AreLawful (entries_of names.facts.entries) };
 }
 
 impl Names {
@@ -48,7 +48,7 @@ impl Names {
         ensures { result ≡ [] }
     {
         Names {
-            kinds: IndexMap::new(alloc),
+            facts: IndexMap::new(alloc),
         }
     }
 
@@ -56,7 +56,7 @@ impl Names {
     pub fn len(&self) -> u32
         ensures { result ≡ length self.now }
     {
-        self.kinds.len() as u32
+        self.facts.len() as u32
     }
 
     /// Declares a name. One that stands with this kind keeps its `Id`, and any other one goes last. Where this is
@@ -73,20 +73,54 @@ impl Names {
         match self.lookup(name.as_str()) {
             Some(id) if self.kind(id) == kind => Ok(id),
             Some(_) => Err(DeclareError::Redeclared),
-            None => Ok(self.push(name, kind)?),
+            None => {
+                let elements = None;
+                Ok(self.push(name, Facts { kind, elements })?)
+            }
+        }
+    }
+
+    /// Declares a set. One that stands with these elements keeps its `Id`, and a new name goes last. Where this is
+    /// refused, and where memory is wanting, all stays as it was.
+    pub fn declare_set(&mut self, name: Name, elements: Elements) -> Result<Id, DeclareError>
+        requires room { length self.old < 2 ^ 32 - 1 }
+        requires lawful { AreElements self.old elements }
+        ensures declared { IfOk result (λ id. declare_set self.old name elements ≡ Some (id, self.new)) }
+        ensures redeclared { result ≡ Err DeclareError.Redeclared → declare_set self.old name elements ≡ None }
+        ensures unchanged { OnErr result (self.new ≡ self.old) }
+    {
+        match self.lookup(name.as_str()) {
+            Some(id) if self.is_set_of(id, &elements) => Ok(id),
+            Some(_) => Err(DeclareError::Redeclared),
+            None => {
+                let kind = Kind::Set;
+                let elements = Some(elements);
+                Ok(self.push(name, Facts { kind, elements })?)
+            }
+        }
+    }
+
+    /// Whether the name is a set of these elements.
+    fn is_set_of(&self, id: Id, elements: &Elements) -> bool
+        requires { id < length self.now }
+        ensures { result ≡ has_elements (elements_at self.now id) elements.now }
+    {
+        match self.elements(id) {
+            Some(other) => other.is_same(elements),
+            None => false,
         }
     }
 
     /// Puts a new name last.
-    fn push(&mut self, name: Name, kind: Kind) -> Result<Id, AllocError>
+    fn push(&mut self, name: Name, facts: Facts) -> Result<Id, AllocError>
         requires new { lookup self.old name ≡ None }
         requires room { length self.old < 2 ^ 32 - 1 }
-        requires lawful { IsKind self.old kind }
+        requires lawful { IsLawful self.old (entry_of name facts) }
         ensures id { IfOk result (λ id. id ≡ length self.old) }
-        ensures last { OnOk result (self.new ≡ self.old ++ record { name = name; kind = kind } ∷ []) }
+        ensures last { OnOk result (self.new ≡ self.old ++ entry_of name facts ∷ []) }
         ensures unchanged { OnErr result (self.new ≡ self.old) }
     {
-        let (position, _) = self.kinds.insert_full(name.into_string(), kind)?;
+        let (position, _) = self.facts.insert_full(name.into_string(), facts)?;
         Ok(Id::new(position as u32))
     }
 
@@ -95,16 +129,25 @@ impl Names {
         ensures found { result ≡ lookup self.now name.now }
         ensures within { IfSome result (λ id. id < length self.now) }
     {
-        let position = self.kinds.get_index_of(name)?;
+        let position = self.facts.get_index_of(name)?;
         Some(Id::new(position as u32))
     }
 
     pub fn kind(&self, id: Id) -> Kind
         requires { id < length self.now }
         ensures stands { kind_at self.now id ≡ Some result }
-        ensures lawful { IsKind self.now result }
+        ensures lawful { IfSome (dimension_of result) (IsDimension self.now) }
     {
-        self.kinds[id.position() as usize]
+        self.facts[id.position() as usize].kind
+    }
+
+    /// The elements of a set, none for another name.
+    pub fn elements(&self, id: Id) -> Option<&Elements>
+        requires { id < length self.now }
+        ensures stands { option_copied result ≡ elements_at self.now id }
+        ensures lawful { IfSome (elements_at self.now id) (AreElements self.now) }
+    {
+        self.facts[id.position() as usize].elements.as_ref()
     }
 
     /// The dimension of an index, none for another name.
@@ -123,7 +166,7 @@ impl Names {
         requires { id < length self.now }
         ensures { name_at self.now id ≡ Some result.now }
     {
-        let (name, _) = self.kinds.get_index(id.position() as usize).unwrap();
+        let (name, _) = self.facts.get_index(id.position() as usize).unwrap();
         name.as_str()
     }
 }

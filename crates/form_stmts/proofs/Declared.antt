@@ -92,6 +92,10 @@ mutual
   after_name (by_terminal.Close ∷ rest) name indices out e = absurd cc
   after_name (by_terminal.Period ∷ rest) name indices out e = absurd cc
   after_name (by_terminal.Other ∷ rest) name indices out e = absurd cc
+  after_name (by_terminal.Question ∷ rest) name indices out e = absurd cc
+  after_name (by_terminal.OpenBrace ∷ rest) name indices out e = absurd cc
+  after_name (by_terminal.CloseBrace ∷ rest) name indices out e = absurd cc
+  after_name (by_terminal.Colon ∷ rest) name indices out e = absurd cc
 
   after_equals : (terminals : List Terminal) (name : Spelled) (indices out : List SpelledIndex) → indices_from (last.Equals name) indices terminals ≡ Some out → IsRest name indices (by_terminal.Equals ∷ terminals) out
   after_equals [] name indices out e = absurd cc
@@ -111,6 +115,10 @@ mutual
   after_equals (by_terminal.Period ∷ rest) name indices out e = absurd cc
   after_equals (by_terminal.Equals ∷ rest) name indices out e = absurd cc
   after_equals (by_terminal.Other ∷ rest) name indices out e = absurd cc
+  after_equals (by_terminal.Question ∷ rest) name indices out e = absurd cc
+  after_equals (by_terminal.OpenBrace ∷ rest) name indices out e = absurd cc
+  after_equals (by_terminal.CloseBrace ∷ rest) name indices out e = absurd cc
+  after_equals (by_terminal.Colon ∷ rest) name indices out e = absurd cc
 
   after_dimension : (terminals : List Terminal) (indices out : List SpelledIndex) → indices_from last.Dimension indices terminals ≡ Some out → AreFurther indices terminals out
   after_dimension [] indices out e = record { others = []; written = refl; kept = sym (same_Some indices out e) ∙ sym (append-nil indices) }
@@ -129,6 +137,10 @@ mutual
   after_dimension (by_terminal.Period ∷ rest) indices out e = absurd cc
   after_dimension (by_terminal.Equals ∷ rest) indices out e = absurd cc
   after_dimension (by_terminal.Other ∷ rest) indices out e = absurd cc
+  after_dimension (by_terminal.Question ∷ rest) indices out e = absurd cc
+  after_dimension (by_terminal.OpenBrace ∷ rest) indices out e = absurd cc
+  after_dimension (by_terminal.CloseBrace ∷ rest) indices out e = absurd cc
+  after_dimension (by_terminal.Colon ∷ rest) indices out e = absurd cc
 
   after_comma : (terminals : List Terminal) (indices out : List SpelledIndex) → indices_from last.Nothing indices terminals ≡ Some out → AreFurther indices (by_terminal.Comma ∷ terminals) out
   after_comma [] indices out e = absurd cc
@@ -147,6 +159,10 @@ mutual
   after_comma (by_terminal.Period ∷ rest) indices out e = absurd cc
   after_comma (by_terminal.Equals ∷ rest) indices out e = absurd cc
   after_comma (by_terminal.Other ∷ rest) indices out e = absurd cc
+  after_comma (by_terminal.Question ∷ rest) indices out e = absurd cc
+  after_comma (by_terminal.OpenBrace ∷ rest) indices out e = absurd cc
+  after_comma (by_terminal.CloseBrace ∷ rest) indices out e = absurd cc
+  after_comma (by_terminal.Colon ∷ rest) indices out e = absurd cc
 
 indices_sound : (terminals : List Terminal) (out : List SpelledIndex) → indices_from last.Nothing [] terminals ≡ Some out → AreIndices terminals out
 unfolding indices_from
@@ -172,6 +188,10 @@ indices_sound (by_terminal.Comma ∷ rest) out e = absurd cc
 indices_sound (by_terminal.Period ∷ rest) out e = absurd cc
 indices_sound (by_terminal.Equals ∷ rest) out e = absurd cc
 indices_sound (by_terminal.Other ∷ rest) out e = absurd cc
+indices_sound (by_terminal.Question ∷ rest) out e = absurd cc
+indices_sound (by_terminal.OpenBrace ∷ rest) out e = absurd cc
+indices_sound (by_terminal.CloseBrace ∷ rest) out e = absurd cc
+indices_sound (by_terminal.Colon ∷ rest) out e = absurd cc
 
 -- further indices are read
 abbrev with_index : List SpelledIndex → Spelled → Option Dimension → List SpelledIndex
@@ -242,6 +262,10 @@ dimension_sound (by_terminal.Comma ∷ []) d e = absurd cc
 dimension_sound (by_terminal.Period ∷ []) d e = absurd cc
 dimension_sound (by_terminal.Equals ∷ []) d e = absurd cc
 dimension_sound (by_terminal.Other ∷ []) d e = absurd cc
+dimension_sound (by_terminal.Question ∷ []) d e = absurd cc
+dimension_sound (by_terminal.OpenBrace ∷ []) d e = absurd cc
+dimension_sound (by_terminal.CloseBrace ∷ []) d e = absurd cc
+dimension_sound (by_terminal.Colon ∷ []) d e = absurd cc
 
 dimension_complete : (terminals : List Terminal) (d : Dimension) → IsDimension terminals d → read_dimension terminals ≡ Some d
 dimension_complete terminals (dimension.Number n) h = ap read_dimension h
@@ -273,6 +297,10 @@ switch_sound (by_terminal.Comma ∷ []) s e = absurd cc
 switch_sound (by_terminal.Period ∷ []) s e = absurd cc
 switch_sound (by_terminal.Equals ∷ []) s e = absurd cc
 switch_sound (by_terminal.Other ∷ []) s e = absurd cc
+switch_sound (by_terminal.Question ∷ []) s e = absurd cc
+switch_sound (by_terminal.OpenBrace ∷ []) s e = absurd cc
+switch_sound (by_terminal.CloseBrace ∷ []) s e = absurd cc
+switch_sound (by_terminal.Colon ∷ []) s e = absurd cc
 
 switch_complete : (terminals : List Terminal) (s : Statement) → IsSwitch terminals s → read_switch terminals ≡ Some s
 switch_complete terminals s h =

@@ -30,9 +30,12 @@ local_from (Some (by_keyword.Names declared)) e = cc
 local_from (Some by_keyword.Indices) e = cc
 local_from (Some by_keyword.Dimension) e = cc
 local_from (Some by_keyword.Switch) e = cc
+local_from (Some by_keyword.Set) e = cc
 local_from (Some by_keyword.Drop) e = cc
 local_from (Some by_keyword.Skip) e = cc
 local_from (Some by_keyword.Local) e = refl
+local_from (Some by_keyword.Id) e = cc
+local_from (Some by_keyword.Also) e = cc
 local_from (Some by_keyword.Print) e = cc
 
 local_is : (kind : TokenKind) (spot : Spot) → is_local_kind kind ≡ true → (name : Spelled) × (kind_terminal kind spot ≡ Name name) × (keyword_of name.name ≡ Some by_keyword.Local)

@@ -19,21 +19,25 @@ use Rattle.form_grammar.specs.Parts.{HasRead}
 use Rattle.form_stmts.specs.Begun.{AreBegun}
 use Rattle.form_stmts.specs.Instruction.{begins_with_period, is_module_instruction}
 use Rattle.form_stmts.specs.Statement.{IsStatement}
-use Rattle.form_stmts.specs.Program.{Lexed, token, period, Item, statement, instruction, items, first_spot, is_semicolon, IsInGrammar, StandsAt, IsRefusedAt, AreModules, IsLexed}
-use Rattle.form_stmts.specs.Progress.{HasBegun, ReadTo, ReadsOn, Refuses, RefusesLine, EndsWith, EndsStatement, IsRefusedItem}
+use Rattle.form_stmts.specs.Program.{Lexed, token, period, Item, statement, instruction, items, first_spot, is_semicolon, may_stand, LeadsTo, IsInGrammar, StandsAt, IsRefusedAt, AreModules, IsLexed}
+use Rattle.form_stmts.specs.Progress.{HasBegun, ReadTo, ReadsOn, Refuses, RefusesLine, EndsStatement, IsRefusedItem}
 
 -- a statement that is none is refused at its first token
-pub refused_statement : (tokens : List Token) (spot : Spot) → Some spot ≡ first_spot tokens → ((s : Statement) → IsStatement (map terminal_of tokens) s → ⊥) → (IsInGrammar (statement tokens) → ⊥) × StandsAt (statement tokens) spot
-refused_statement [] spot e h = absurd cc
-refused_statement (t ∷ ts) spot e h = (λ s. h s.0 s.1, sym (same_Some spot t.spot e))
+pub refused_statement : (before : List Placed) (tokens : List Token) (spot : Spot) → Some spot ≡ first_spot tokens → ((s : Statement) → IsStatement (map terminal_of tokens) s → ⊥)
+    → (IsInGrammar before (statement tokens) → ⊥) × StandsAt (statement tokens) spot
+refused_statement before [] spot e h = absurd cc
+refused_statement before (t ∷ ts) spot e h = (λ g. h g.1.0 g.1.1, sym (same_Some spot t.spot e))
 
-statement_in_grammar : (tokens : List Token) (old new : List Placed) → EndsWith tokens old new → IsInGrammar (statement tokens)
-statement_in_grammar [] old new h = tt
-statement_in_grammar (t ∷ ts) old new h = (h.0, h.1)
+-- a statement that may stand there is added
+pub statement_ends : (before after : List Placed) (tokens : List Token) (spot : Spot) (s : Statement) → Some spot ≡ first_spot tokens → IsStatement (map terminal_of tokens) s → may_stand before tokens ≡ true
+    → after ≡ before ++ record { spot = spot; statement = s } ∷ [] → LeadsTo (statement tokens) before after
+statement_ends before after [] spot s e h m a = absurd cc
+statement_ends before after (t ∷ ts) spot s e h m a =
+    (s, h, m, a ∙ ap (λ (x : Spot). before ++ record { spot = x; statement = s } ∷ []) (same_Some spot t.spot e))
 
-statement_added : (tokens : List Token) (old new : List Placed) (others : List Item) (more : List (List Placed)) → EndsWith tokens old new → AreModules new others more → AreModules old (statement tokens ∷ others) more
+statement_added : (tokens : List Token) (old new : List Placed) (others : List Item) (more : List (List Placed)) → LeadsTo (statement tokens) old new → AreModules new others more → AreModules old (statement tokens ∷ others) more
 statement_added [] old new others more h m = subst (λ (begun : List Placed). AreModules begun others more) h m
-statement_added (t ∷ ts) old new others more h m = (h.0, h.1, subst (λ (begun : List Placed). AreModules begun others more) h.2 m)
+statement_added (t ∷ ts) old new others more h m = (h.0, h.1, h.2, subst (λ (begun : List Placed). AreModules begun others more) h.3 m)
 
 all_behind : (lexed rest : List Lexed) (here : Lexed) → items [] (lexed ++ here ∷ rest) ≡ items [] ((lexed ++ here ∷ []) ++ rest)
 all_behind lexed rest here = ap (items []) (sym (append_assoc lexed (here ∷ []) rest))
@@ -50,8 +54,8 @@ module _ (old new : Reader) (t : Token) (e : is_semicolon t ≡ true) (h : EndsS
         begun = [];
         has_begun = h.has_begun;
         refused = λ rest spot r.
-            let behind : IsRefusedAt (statement to.begun ∷ items [] rest) spot = inr (statement_in_grammar to.begun old.statements.items new.statements.items ended, r) in
-            subst (λ (all : List Item). IsRefusedAt all spot) (all_behind lexed rest (token t)) (to.refused (token t ∷ rest) spot (subst (λ (all : List Item). IsRefusedAt all spot) (sym (items_behind to.begun rest)) behind));
+            let behind : IsRefusedAt old.statements.items (statement to.begun ∷ items [] rest) spot = inr (new.statements.items, ended, r) in
+            subst (λ (all : List Item). IsRefusedAt [] all spot) (all_behind lexed rest (token t)) (to.refused (token t ∷ rest) spot (subst (λ (all : List Item). IsRefusedAt old.statements.items all spot) (sym (items_behind to.begun rest)) behind));
         modules = λ rest more m.
             let behind = statement_added to.begun old.statements.items new.statements.items (items [] rest) more ended m in
             let all = to.modules (token t ∷ rest) more (subst (λ (all : List Item). AreModules old.statements.items all more) (sym (items_behind to.begun rest)) behind) in
@@ -60,11 +64,11 @@ module _ (old new : Reader) (t : Token) (e : is_semicolon t ≡ true) (h : EndsS
       }
 
 -- a statement is refused at its `;`
-pub statement_refused : (old : Reader) (t : Token) (error : ProgramError) → is_semicolon t ≡ true → ((begun : List Token) → HasBegun old begun → IsRefusedItem (statement begun) error) → Refuses old (token t ∷ []) error
+pub statement_refused : (old : Reader) (t : Token) (error : ProgramError) → is_semicolon t ≡ true → ((begun : List Token) → HasBegun old begun → IsRefusedItem old.statements.items (statement begun) error) → Refuses old (token t ∷ []) error
 statement_refused old t Memory e h = tt
 statement_refused old t (BadSyntax spot) e h = λ lexed rest to.
     let here : items to.begun (token t ∷ rest) ≡ statement to.begun ∷ items [] rest = rw e refl in
-    subst (λ (all : List Item). IsRefusedAt all spot) (all_behind lexed rest (token t)) (to.refused (token t ∷ rest) spot (subst (λ (all : List Item). IsRefusedAt all spot) (sym here) (inl (h to.begun to.has_begun))))
+    subst (λ (all : List Item). IsRefusedAt [] all spot) (all_behind lexed rest (token t)) (to.refused (token t ∷ rest) spot (subst (λ (all : List Item). IsRefusedAt old.statements.items all spot) (sym here) (inl (h to.begun to.has_begun))))
 
 module _ (old new : Reader) (t : Token) (e : is_semicolon t ≡ false) (h : (begun : List Token) → HasBegun old begun → HasBegun new (begun ++ t ∷ []))
     (statements : new.statements.items ≡ old.statements.items) (modules : new.modules.items ≡ old.modules.items) where
@@ -76,7 +80,8 @@ module _ (old new : Reader) (t : Token) (e : is_semicolon t ≡ false) (h : (beg
         begun = to.begun ++ t ∷ [];
         has_begun = h to.begun to.has_begun;
         refused = λ rest spot r.
-            subst (λ (all : List Item). IsRefusedAt all spot) (all_behind lexed rest (token t)) (to.refused (token t ∷ rest) spot (subst (λ (all : List Item). IsRefusedAt all spot) (on rest) r));
+            let here = subst (λ (begun : List Placed). IsRefusedAt begun (items to.begun (token t ∷ rest)) spot) statements (subst (λ (all : List Item). IsRefusedAt new.statements.items all spot) (on rest) r) in
+            subst (λ (all : List Item). IsRefusedAt [] all spot) (all_behind lexed rest (token t)) (to.refused (token t ∷ rest) spot here);
         modules = λ rest more m.
             let here = subst (λ (begun : List Placed). AreModules begun (items to.begun (token t ∷ rest)) more) statements (subst (λ (all : List Item). AreModules new.statements.items all more) (on rest) m) in
             let all = to.modules (token t ∷ rest) more here in
@@ -90,6 +95,12 @@ first_begun tokens begun None h = ap first_spot h
 first_begun [] begun (Some r) h = absurd (let f = h.front in cc)
 first_begun (t ∷ ts) begun (Some r) h = ap first_spot h.all
 
+-- and may stand where that may
+pub may_stand_begun : (before : List Placed) (tokens begun : List Token) (right_side : Option RightSide) → AreBegun tokens right_side begun → may_stand before begun ≡ may_stand before tokens
+may_stand_begun before tokens begun None h = ap (may_stand before) h
+may_stand_begun before [] begun (Some r) h = absurd (let f = h.front in cc)
+may_stand_begun before (t ∷ ts) begun (Some r) h = ap (may_stand before) h.all
+
 none_begun : (tokens : List Token) → None ≡ first_spot tokens → tokens ≡ []
 none_begun [] e = refl
 none_begun (t ∷ ts) e = cc
@@ -97,12 +108,13 @@ none_begun (t ∷ ts) e = cc
 -- a line that begins with a period is refused where a statement is begun
 pub unfinished_refused : (old : Reader) (line : PlacedLine) (spot : Spot) → Some spot ≡ first_spot old.tokens.items → Refuses old (period line ∷ []) (BadSyntax spot)
 unfinished_refused old line spot e lexed rest to =
-    subst (λ (all : List Item). IsRefusedAt all spot) (all_behind lexed rest (period line))
+    subst (λ (all : List Item). IsRefusedAt [] all spot) (all_behind lexed rest (period line))
     (by_begun to.begun (e ∙ sym (first_begun old.tokens.items to.begun old.right_side to.has_begun)) (to.refused (period line ∷ rest) spot))
   where
-    by_begun : (begun : List Token) → Some spot ≡ first_spot begun → (IsRefusedAt (items begun (period line ∷ rest)) spot → IsRefusedAt (items [] (lexed ++ period line ∷ rest)) spot) → IsRefusedAt (items [] (lexed ++ period line ∷ rest)) spot
+    by_begun : (begun : List Token) → Some spot ≡ first_spot begun → (IsRefusedAt old.statements.items (items begun (period line ∷ rest)) spot → IsRefusedAt [] (items [] (lexed ++ period line ∷ rest)) spot)
+        → IsRefusedAt [] (items [] (lexed ++ period line ∷ rest)) spot
     by_begun [] e r = cc
-    by_begun (t ∷ ts) e r = r (inl ((λ h. h), sym (same_Some spot t.spot e)))
+    by_begun (t ∷ ts) e r = r (inl ((λ h. h.1), sym (same_Some spot t.spot e)))
 
 module _ (old : Reader) (line : PlacedLine) (none : None ≡ first_spot old.tokens.items) where
   no_begun : (begun : List Token) → HasBegun old begun → begun ≡ []
@@ -112,19 +124,20 @@ module _ (old : Reader) (line : PlacedLine) (none : None ≡ first_spot old.toke
   pub instruction_refused : (IsTrue (is_module_instruction line.text) → ⊥) → Refuses old (period line ∷ []) (BadSyntax line.spot)
   instruction_refused wrong lexed rest to =
       let here : items to.begun (period line ∷ rest) ≡ instruction line ∷ items [] rest = ap (λ (begun : List Token). items begun (period line ∷ rest)) (no_begun to.begun to.has_begun) in
-      subst (λ (all : List Item). IsRefusedAt all line.spot) (all_behind lexed rest (period line))
-      (to.refused (period line ∷ rest) line.spot (subst (λ (all : List Item). IsRefusedAt all line.spot) (sym here) (inl (wrong, refl))))
+      subst (λ (all : List Item). IsRefusedAt [] all line.spot) (all_behind lexed rest (period line))
+      (to.refused (period line ∷ rest) line.spot (subst (λ (all : List Item). IsRefusedAt old.statements.items all line.spot) (sym here) (inl ((λ g. wrong g.1.0), refl))))
 
   -- and else ends the module
-  pub module_ends : (new : Reader) → IsTrue (is_module_instruction line.text) → HasBegun new [] → new.statements.items ≡ [] → new.modules.items ≡ old.modules.items ++ old.statements.items ∷ [] → ReadsOn old (period line ∷ []) new
-  module_ends new is begun statements modules lexed to =
+  pub module_ends : (new : Reader) → IsTrue (is_module_instruction line.text) → ((begun : List Token) → HasBegun old begun → HasBegun new begun) → new.statements.items ≡ [] → new.modules.items ≡ old.modules.items ++ old.statements.items ∷ [] → ReadsOn old (period line ∷ []) new
+  module_ends new is kept statements modules lexed to =
       let here : (rest : List Lexed) → items to.begun (period line ∷ rest) ≡ instruction line ∷ items [] rest = λ rest. ap (λ (begun : List Token). items begun (period line ∷ rest)) (no_begun to.begun to.has_begun) in
       record {
         begun = [];
-        has_begun = begun;
+        has_begun = subst (λ (begun : List Token). HasBegun new begun) (no_begun to.begun to.has_begun) (kept to.begun to.has_begun);
         refused = λ rest spot r.
-            subst (λ (all : List Item). IsRefusedAt all spot) (all_behind lexed rest (period line))
-            (to.refused (period line ∷ rest) spot (subst (λ (all : List Item). IsRefusedAt all spot) (sym (here rest)) (inr (is, r))));
+            let behind : IsRefusedAt old.statements.items (instruction line ∷ items [] rest) spot = inr (new.statements.items, (is, statements), r) in
+            subst (λ (all : List Item). IsRefusedAt [] all spot) (all_behind lexed rest (period line))
+            (to.refused (period line ∷ rest) spot (subst (λ (all : List Item). IsRefusedAt old.statements.items all spot) (sym (here rest)) behind));
         modules = λ rest more m.
             let others = subst (λ (begun : List Placed). AreModules begun (items [] rest) more) statements m in
             let ended : AreModules old.statements.items (instruction line ∷ items [] rest) (old.statements.items ∷ more) = (is, more, refl, others) in
@@ -163,7 +176,7 @@ pub refused_among : (old read : Reader) (line : PlacedLine) (tokens front others
     → ReadsOn old (map token front) read → Refuses read (token t ∷ []) error → RefusesLine old line error
 refused_among old read line tokens front others t Memory e is on r = tt
 refused_among old read line tokens front others t (BadSyntax spot) e is on r =
-    (map token tokens, is, λ lexed rest to. subst (λ (all : List Lexed). IsRefusedAt (items [] all) spot) (regrouped lexed rest) (r (lexed ++ map token front) (map token others ++ rest) (on lexed to))) where
+    (map token tokens, is, λ lexed rest to. subst (λ (all : List Lexed). IsRefusedAt [] (items [] all) spot) (regrouped lexed rest) (r (lexed ++ map token front) (map token others ++ rest) (on lexed to))) where
       regrouped : (lexed rest : List Lexed) → ((lexed ++ map token front) ++ token t ∷ []) ++ (map token others ++ rest) ≡ (lexed ++ map token tokens) ++ rest
       regrouped lexed rest = joined lexed (map token front) (map token others) rest (token t)
           ∙ ap (λ (all : List Lexed). (lexed ++ all) ++ rest) (sym (map-append token front (t ∷ others)) ∙ ap (map token) e)

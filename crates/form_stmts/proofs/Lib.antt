@@ -7,6 +7,9 @@ pub mod Going
 pub mod Lawfulness
 pub mod Lines
 pub mod Listed
+pub mod Members
 pub mod Reading
+pub mod Rewritten
+pub mod Trees
 pub mod Unique
 pub mod Words

@@ -57,7 +57,7 @@ refused_at_line some lines done others line reader (BadSyntax spot) e read r =
     record {
       lexed = read.0 ++ (r.0 ++ rest.0);
       are_lexed = subst (λ (all : List PlacedLine). AreLexed all (read.0 ++ (r.0 ++ rest.0))) e (lexed_append done (line ∷ others) read.0 (r.0 ++ rest.0) read.1 (r.0, r.1, rest.0, rest.1, refl));
-      refused = subst (λ (all : List Lexed). IsRefusedAt (items [] all) spot) (append_assoc read.0 r.0 rest.0) (r.2 read.0 rest.0 read.2);
+      refused = subst (λ (all : List Lexed). IsRefusedAt [] (items [] all) spot) (append_assoc read.0 r.0 rest.0) (r.2 read.0 rest.0 read.2);
     }
 
 -- the modules of what was read

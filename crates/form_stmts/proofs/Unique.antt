@@ -11,22 +11,26 @@ use Rattle.form_ast.specs.declared.expr.Piece.{Piece}
 use Rattle.form_ast.specs.declared.statement.Statement.{Statement}
 use Rattle.form_ast.specs.declared.statement.Statement.TheVariants as statements
 use Rattle.form_ast.specs.declared.statement.Placed.{Placed}
+use Rattle.form_ast.specs.declared.statement.WrittenElements.{WrittenElements}
 use Rattle.form_grammar.specs.Grammar.{IsExpr}
 use Rattle.form_grammar.specs.Terminal.{terminal_of}
 use Rattle.form_grammar.specs.declared.terminal.Terminal.{Terminal}
 use Rattle.form_grammar.specs.declared.terminal.Terminal.TheVariants as by_terminal
 use Rattle.form_stmts.specs.declared.keyword.Keyword as keywords
-use Rattle.form_stmts.specs.declared.keyword.Keyword.TheVariants.{Names, Indices, Switch, Drop, Skip, Local, Print}
+use Rattle.form_stmts.specs.declared.keyword.Keyword.TheVariants.{Names, Indices, Switch, Set, Drop, Skip, Local, Id, Also, Print}
 use Rattle.form_stmts.specs.declared.keyword.Keyword.TheVariants as keyword
 use Rattle.form_stmts.specs.Instruction.{begins_with_period, is_module_instruction}
 use Rattle.form_stmts.specs.Keyword.{keyword_of}
-use Rattle.form_stmts.specs.Reading.{front_name, after_equals}
-use Rattle.form_stmts.specs.Statement.{AreNames, AreNamesOrNone, AreIndices, IsDimension, IsDefinition, FollowsKeyword, IsStatement}
-use Rattle.form_stmts.specs.Program.{Lexed, token, period, Item, statement, unfinished, instruction, IsLexed, AreLexed, StandsAt, IsRefusedAt, AreModules}
+use Rattle.form_stmts.specs.Reading.{front_name, after_equals, after_colon}
+use Rattle.form_stmts.specs.Statement.{AreNames, AreNamesOrNone, AreIndices, IsDimension, AreElements, IsDefinition, IsSet, FollowsKeyword, IsStatement}
+use Rattle.form_stmts.specs.Program.{Lexed, token, period, Item, statement, unfinished, instruction, may_stand, IsLexed, AreLexed, LeadsTo, StandsAt, IsRefusedAt, AreModules}
 use Rattle.form_stmts.proofs.Listed.{one_list, one_list_or_none, names_or_not, names_or_none_or_not}
-use Rattle.form_stmts.proofs.Excluded.{right_side}
+use Rattle.form_stmts.proofs.Excluded.{right_side, elements_behind}
 use Rattle.form_stmts.proofs.Declared.{one_indices, one_dimension, indices_or_not, dimension_or_not, switch_or_not}
 use Rattle.form_stmts.proofs.Either.{IsOrNot, IsOne}
+use Rattle.form_stmts.proofs.Members.{one_elements, elements_or_not}
+use Rattle.form_stmts.proofs.Rewritten.{one_rewrite, rewrite_or_not}
+use Rattle.form_stmts.proofs.Trees.{TreeLaws}
 
 front_name_is : (terminals : List Terminal) (x : Spelled × List Terminal) → front_name terminals ≡ Some x → terminals ≡ by_terminal.Name x.0 ∷ x.1
 front_name_is [] x e = absurd cc
@@ -41,6 +45,10 @@ front_name_is (by_terminal.Close ∷ rest) x e = absurd cc
 front_name_is (by_terminal.Comma ∷ rest) x e = absurd cc
 front_name_is (by_terminal.Equals ∷ rest) x e = absurd cc
 front_name_is (by_terminal.Other ∷ rest) x e = absurd cc
+front_name_is (by_terminal.Question ∷ rest) x e = absurd cc
+front_name_is (by_terminal.OpenBrace ∷ rest) x e = absurd cc
+front_name_is (by_terminal.CloseBrace ∷ rest) x e = absurd cc
+front_name_is (by_terminal.Colon ∷ rest) x e = absurd cc
 front_name_is (by_terminal.Imaginary n ∷ rest) x e = absurd cc
 front_name_is (by_terminal.Delta n ∷ rest) x e = absurd cc
 front_name_is (by_terminal.Period ∷ rest) x e = absurd cc
@@ -58,9 +66,34 @@ after_equals_is (by_terminal.Open ∷ others) rest e = absurd cc
 after_equals_is (by_terminal.Close ∷ others) rest e = absurd cc
 after_equals_is (by_terminal.Comma ∷ others) rest e = absurd cc
 after_equals_is (by_terminal.Other ∷ others) rest e = absurd cc
+after_equals_is (by_terminal.Question ∷ others) rest e = absurd cc
+after_equals_is (by_terminal.OpenBrace ∷ others) rest e = absurd cc
+after_equals_is (by_terminal.CloseBrace ∷ others) rest e = absurd cc
+after_equals_is (by_terminal.Colon ∷ others) rest e = absurd cc
 after_equals_is (by_terminal.Imaginary n ∷ others) rest e = absurd cc
 after_equals_is (by_terminal.Delta n ∷ others) rest e = absurd cc
 after_equals_is (by_terminal.Period ∷ others) rest e = absurd cc
+
+after_colon_is : (terminals rest : List Terminal) → after_colon terminals ≡ Some rest → terminals ≡ by_terminal.Colon ∷ rest
+after_colon_is [] rest e = absurd cc
+after_colon_is (by_terminal.Colon ∷ others) rest e = ap (λ (r : List Terminal). by_terminal.Colon ∷ r) (same_Some others rest e)
+after_colon_is (by_terminal.Name n ∷ others) rest e = absurd cc
+after_colon_is (by_terminal.Number n ∷ others) rest e = absurd cc
+after_colon_is (by_terminal.Sign n ∷ others) rest e = absurd cc
+after_colon_is (by_terminal.Times ∷ others) rest e = absurd cc
+after_colon_is (by_terminal.Over ∷ others) rest e = absurd cc
+after_colon_is (by_terminal.Raise ∷ others) rest e = absurd cc
+after_colon_is (by_terminal.Open ∷ others) rest e = absurd cc
+after_colon_is (by_terminal.Close ∷ others) rest e = absurd cc
+after_colon_is (by_terminal.Comma ∷ others) rest e = absurd cc
+after_colon_is (by_terminal.Other ∷ others) rest e = absurd cc
+after_colon_is (by_terminal.Question ∷ others) rest e = absurd cc
+after_colon_is (by_terminal.OpenBrace ∷ others) rest e = absurd cc
+after_colon_is (by_terminal.CloseBrace ∷ others) rest e = absurd cc
+after_colon_is (by_terminal.Equals ∷ others) rest e = absurd cc
+after_colon_is (by_terminal.Imaginary n ∷ others) rest e = absurd cc
+after_colon_is (by_terminal.Delta n ∷ others) rest e = absurd cc
+after_colon_is (by_terminal.Period ∷ others) rest e = absurd cc
 
 behind_name : (terminals rest : List Terminal) (name other : Spelled) (others : List Terminal) → front_name terminals ≡ Some (name, rest) → terminals ≡ by_terminal.Name other ∷ others → rest ≡ others
 behind_name terminals rest name other others e f =
@@ -72,7 +105,41 @@ mapped : {X Y : Type 0} (P : X → Type 0) (Q : Y → Type 0) → ((x : X) × P 
 mapped P Q f g (inl p) = inl (f p)
 mapped P Q f g (inr none) = inr (λ y q. let p = g y q in none p.0 p.1)
 
-module _ (one_expr : (terminals : List Terminal) → IsOne (IsExpr terminals)) (expr_or_not : (terminals : List Terminal) → IsOrNot (IsExpr terminals)) where
+one_set : (terminals : List Terminal) → IsOne (IsSet terminals)
+one_set terminals s t h k =
+    let here : Spelled × List Terminal = (h.name, by_terminal.Colon ∷ h.rest) in
+    let there : Spelled × List Terminal = (k.name, by_terminal.Colon ∷ k.rest) in
+    let same : here ≡ there = same_Some here there (ap front_name (sym h.written ∙ k.written)) in
+    let names : h.name ≡ k.name = ap (λ (x : Spelled × List Terminal). x.0) same in
+    let rests : h.rest ≡ k.rest = same_Some h.rest k.rest (ap (λ (x : Spelled × List Terminal). after_colon x.1) same) in
+    let elements : h.elements ≡ k.elements = one_elements k.rest h.elements k.elements (subst (λ (r : List Terminal). AreElements r h.elements) rests h.are_elements) k.are_elements in
+    h.kept ∙ ap (λ (n : Spelled). statements.Set n h.elements) names ∙ ap (λ (e : WrittenElements). statements.Set k.name e) elements ∙ sym k.kept
+
+set_or_not : (terminals : List Terminal) → IsOrNot (IsSet terminals)
+set_or_not terminals = by_name (front_name terminals) refl where
+  by_elements : (name : Spelled) (rest others : List Terminal) → front_name terminals ≡ Some (name, rest) → after_colon rest ≡ Some others → IsOrNot (AreElements others) → IsOrNot (IsSet terminals)
+  by_elements name rest others e f (inl p) = inl (
+    statements.Set name p.0,
+    record {
+      name = name;
+      rest = others;
+      elements = p.0;
+      written = front_name_is terminals (name, rest) e ∙ ap (λ (r : List Terminal). by_terminal.Name name ∷ r) (after_colon_is rest others f);
+      are_elements = p.1;
+      kept = refl;
+    },
+  )
+  by_elements name rest others e f (inr none) = inr (λ s h. let p = elements_behind terminals rest others name e f s h in none p.0 p.1)
+
+  by_colon : (name : Spelled) (rest : List Terminal) → front_name terminals ≡ Some (name, rest) → (o : Option (List Terminal)) → after_colon rest ≡ o → IsOrNot (IsSet terminals)
+  by_colon name rest e None f = inr (λ s h. none-some h.rest (sym f ∙ ap after_colon (behind_name terminals rest name (h.name) (by_terminal.Colon ∷ h.rest) e h.written)))
+  by_colon name rest e (Some others) f = by_elements name rest others e f (elements_or_not others)
+
+  by_name : (o : Option (Spelled × List Terminal)) → front_name terminals ≡ o → IsOrNot (IsSet terminals)
+  by_name None e = inr (λ s h. none-some (h.name, by_terminal.Colon ∷ h.rest) (sym e ∙ ap front_name h.written))
+  by_name (Some x) e = by_colon x.0 x.1 e (after_colon x.1) refl
+
+module _ (laws : TreeLaws) where
   one_definition : (terminals : List Terminal) → IsOne (IsDefinition terminals)
   one_definition terminals s t h k =
       let here : Spelled × List Terminal = (h.name, by_terminal.Equals ∷ h.rest) in
@@ -80,7 +147,7 @@ module _ (one_expr : (terminals : List Terminal) → IsOne (IsExpr terminals)) (
       let same : here ≡ there = same_Some here there (ap front_name (sym h.written ∙ k.written)) in
       let names : h.name ≡ k.name = ap (λ (x : Spelled × List Terminal). x.0) same in
       let rests : h.rest ≡ k.rest = same_Some h.rest k.rest (ap (λ (x : Spelled × List Terminal). after_equals x.1) same) in
-      let pieces : h.pieces ≡ k.pieces = one_expr k.rest h.pieces k.pieces (subst (λ (r : List Terminal). IsExpr r h.pieces) rests h.right_side) k.right_side in
+      let pieces : h.pieces ≡ k.pieces = laws.one_expr k.rest h.pieces k.pieces (subst (λ (r : List Terminal). IsExpr r h.pieces) rests h.right_side) k.right_side in
       h.kept ∙ ap (λ (n : Spelled). statements.Local n h.pieces) names ∙ ap (λ (p : List Piece). statements.Local k.name p) pieces ∙ sym k.kept
 
   one_behind : (keyword : keywords.Keyword) (terminals : List Terminal) → IsOne (FollowsKeyword keyword terminals)
@@ -88,9 +155,12 @@ module _ (one_expr : (terminals : List Terminal) → IsOne (IsExpr terminals)) (
   one_behind Indices terminals s t h k = h.2 ∙ ap statements.Indices (one_indices terminals h.0 k.0 h.1 k.1) ∙ sym k.2
   one_behind keyword.Dimension terminals s t h k = h.2 ∙ ap statements.Dimension (one_dimension terminals h.0 k.0 h.1 k.1) ∙ sym k.2
   one_behind Switch terminals s t h k = h.kept ∙ sym k.kept
+  one_behind Set terminals s t h k = one_set terminals s t h k
   one_behind Drop terminals s t h k = h.2 ∙ ap statements.Drop (one_list_or_none terminals h.0 k.0 h.1 k.1) ∙ sym k.2
   one_behind Skip terminals s t h k = h.2 ∙ ap statements.Skip (one_list_or_none terminals h.0 k.0 h.1 k.1) ∙ sym k.2
   one_behind Local terminals s t h k = one_definition terminals s t h k
+  one_behind Id terminals s t h k = one_rewrite false terminals laws s t h k
+  one_behind Also terminals s t h k = one_rewrite true terminals laws s t h k
   one_behind Print terminals s t h k = h.2 ∙ ap statements.Print (one_list_or_none terminals h.0 k.0 h.1 k.1) ∙ sym k.2
 
   pub one_statement : (terminals : List Terminal) → IsOne (IsStatement terminals)
@@ -120,7 +190,7 @@ module _ (one_expr : (terminals : List Terminal) → IsOne (IsExpr terminals)) (
 
     by_equals : (name : Spelled) (rest : List Terminal) → front_name terminals ≡ Some (name, rest) → (o : Option (List Terminal)) → after_equals rest ≡ o → IsOrNot (IsDefinition terminals)
     by_equals name rest e None f = inr (λ s h. none-some h.rest (sym f ∙ ap after_equals (behind_name terminals rest name (h.name) (by_terminal.Equals ∷ h.rest) e h.written)))
-    by_equals name rest e (Some others) f = by_expr name rest others e f (expr_or_not others)
+    by_equals name rest e (Some others) f = by_expr name rest others e f (laws.expr_or_not others)
 
     by_name : (o : Option (Spelled × List Terminal)) → front_name terminals ≡ o → IsOrNot (IsDefinition terminals)
     by_name None e = inr (λ s h. none-some (h.name, by_terminal.Equals ∷ h.rest) (sym e ∙ ap front_name h.written))
@@ -131,9 +201,12 @@ module _ (one_expr : (terminals : List Terminal) → IsOne (IsExpr terminals)) (
   behind_or_not Indices terminals = mapped (AreIndices terminals) (FollowsKeyword Indices terminals) (λ p. (statements.Indices p.0, (p.0, p.1, refl))) (λ s h. (h.0, h.1)) (indices_or_not terminals)
   behind_or_not keyword.Dimension terminals = mapped (IsDimension terminals) (FollowsKeyword keyword.Dimension terminals) (λ p. (statements.Dimension p.0, (p.0, p.1, refl))) (λ s h. (h.0, h.1)) (dimension_or_not terminals)
   behind_or_not Switch terminals = switch_or_not terminals
+  behind_or_not Set terminals = set_or_not terminals
   behind_or_not Drop terminals = mapped (AreNamesOrNone terminals) (FollowsKeyword Drop terminals) (λ p. (statements.Drop p.0, (p.0, p.1, refl))) (λ s h. (h.0, h.1)) (names_or_none_or_not terminals)
   behind_or_not Skip terminals = mapped (AreNamesOrNone terminals) (FollowsKeyword Skip terminals) (λ p. (statements.Skip p.0, (p.0, p.1, refl))) (λ s h. (h.0, h.1)) (names_or_none_or_not terminals)
   behind_or_not Local terminals = definition_or_not terminals
+  behind_or_not Id terminals = rewrite_or_not false terminals laws
+  behind_or_not Also terminals = rewrite_or_not true terminals laws
   behind_or_not Print terminals = mapped (AreNamesOrNone terminals) (FollowsKeyword Print terminals) (λ p. (statements.Print p.0, (p.0, p.1, refl))) (λ s h. (h.0, h.1)) (names_or_none_or_not terminals)
 
   pub statement_or_not : (terminals : List Terminal) → IsOrNot (IsStatement terminals)
@@ -168,22 +241,36 @@ module _ (one : (terminals : List Terminal) → IsOne (IsStatement terminals)) (
   one_spot (unfinished x xs) s t h k = sym h ∙ k
   one_spot (instruction line) s t h k = sym h ∙ k
 
-  pub one_refusal : (list : List Item) → IsOne (IsRefusedAt list)
-  one_refusal [] s t h k = absurd h
-  one_refusal (item ∷ list) s t (inl h) (inl k) = one_spot item s t h.1 k.1
-  one_refusal (item ∷ list) s t (inl h) (inr k) = absurd (h.0 k.0)
-  one_refusal (item ∷ list) s t (inr h) (inl k) = absurd (k.0 h.0)
-  one_refusal (item ∷ list) s t (inr h) (inr k) = one_refusal list s t h.1 k.1
+  -- an item leads on to one list of statements
+  one_end : (item : Item) (before : List Placed) → IsOne (LeadsTo item before)
+  one_end (statement []) before a b h k = h ∙ sym k
+  one_end (statement (t ∷ ts)) before a b h k =
+      let same : h.0 ≡ k.0 = one (map terminal_of (t ∷ ts)) h.0 k.0 h.1 k.1 in
+      h.3 ∙ ap (λ (s : Statement). before ++ record { spot = t.spot; statement = s } ∷ []) same ∙ sym k.3
+  one_end (unfinished t ts) before a b h k = absurd h
+  one_end (instruction line) before a b h k = h.1 ∙ sym k.1
 
-  pub never_both : (list : List Item) (begun : List Placed) (modules : List (List Placed)) (spot : Spot) → AreModules begun list modules → IsRefusedAt list spot → ⊥
+  pub one_refusal : (list : List Item) (before : List Placed) → IsOne (IsRefusedAt before list)
+  one_refusal [] before s t h k = absurd h
+  one_refusal (item ∷ list) before s t (inl h) (inl k) = one_spot item s t h.1 k.1
+  one_refusal (item ∷ list) before s t (inl h) (inr k) = absurd (h.0 (k.0, k.1))
+  one_refusal (item ∷ list) before s t (inr h) (inl k) = absurd (k.0 (h.0, h.1))
+  one_refusal (item ∷ list) before s t (inr h) (inr k) =
+      one_refusal list k.0 s t (subst (λ (after : List Placed). IsRefusedAt after list s) (one_end item before h.0 k.0 h.1 k.1) h.2) k.2
+
+  pub never_both : (list : List Item) (begun : List Placed) (modules : List (List Placed)) (spot : Spot) → AreModules begun list modules → IsRefusedAt begun list spot → ⊥
   never_both [] begun modules spot m r = r
-  never_both (statement [] ∷ list) begun modules spot m (inl r) = r.0 tt
-  never_both (statement [] ∷ list) begun modules spot m (inr r) = never_both list begun modules spot m r.1
-  never_both (statement (x ∷ xs) ∷ list) begun modules spot m (inl r) = r.0 (m.0, m.1)
-  never_both (statement (x ∷ xs) ∷ list) begun modules spot m (inr r) = never_both list (begun ++ record { spot = x.spot; statement = m.0 } ∷ []) modules spot m.2 r.1
+  never_both (statement [] ∷ list) begun modules spot m (inl r) = r.0 (begun, refl)
+  never_both (statement [] ∷ list) begun modules spot m (inr r) =
+      never_both list begun modules spot m (subst (λ (after : List Placed). IsRefusedAt after list spot) (one_end (statement []) begun r.0 begun r.1 refl) r.2)
+  never_both (statement (x ∷ xs) ∷ list) begun modules spot m (inl r) = r.0 (begun ++ record { spot = x.spot; statement = m.0 } ∷ [], (m.0, m.1, m.2, refl))
+  never_both (statement (x ∷ xs) ∷ list) begun modules spot m (inr r) =
+      let further : List Placed = begun ++ record { spot = x.spot; statement = m.0 } ∷ [] in
+      never_both list further modules spot m.3 (subst (λ (after : List Placed). IsRefusedAt after list spot) (one_end (statement (x ∷ xs)) begun r.0 further r.1 (m.0, m.1, m.2, refl)) r.2)
   never_both (unfinished x xs ∷ list) begun modules spot m r = m
-  never_both (instruction line ∷ list) begun modules spot m (inl r) = r.0 m.0
-  never_both (instruction line ∷ list) begun modules spot m (inr r) = never_both list [] m.1 spot m.3 r.1
+  never_both (instruction line ∷ list) begun modules spot m (inl r) = r.0 ([], (m.0, refl))
+  never_both (instruction line ∷ list) begun modules spot m (inr r) =
+      never_both list [] m.1 spot m.3 (subst (λ (after : List Placed). IsRefusedAt after list spot) (one_end (instruction line) begun r.0 [] r.1 (m.0, refl)) r.2)
 
   pub one_program : (list : List Item) (begun : List Placed) → IsOne (AreModules begun list)
   one_program [] begun x y h k = h ∙ sym k
@@ -191,32 +278,36 @@ module _ (one : (terminals : List Terminal) → IsOne (IsStatement terminals)) (
   one_program (statement (t ∷ ts) ∷ list) begun x y h k =
       let same : h.0 ≡ k.0 = one (map terminal_of (t ∷ ts)) h.0 k.0 h.1 k.1 in
       let further : List Placed = begun ++ record { spot = t.spot; statement = k.0 } ∷ [] in
-      one_program list further x y (subst (λ (s : Statement). AreModules (begun ++ record { spot = t.spot; statement = s } ∷ []) list x) same h.2) k.2
+      one_program list further x y (subst (λ (s : Statement). AreModules (begun ++ record { spot = t.spot; statement = s } ∷ []) list x) same h.3) k.3
   one_program (unfinished t ts ∷ list) begun x y h k = absurd h
   one_program (instruction line ∷ list) begun x y h k = h.2 ∙ ap (λ (rest : List (List Placed)). begun ∷ rest) (one_program list [] h.1 k.1 h.3 k.3) ∙ sym k.2
 
-  pub one_of_both : (list : List Item) (begun : List Placed) → ((modules : List (List Placed)) × AreModules begun list modules) ⊎ ((spot : Spot) × IsRefusedAt list spot)
+  pub one_of_both : (list : List Item) (begun : List Placed) → ((modules : List (List Placed)) × AreModules begun list modules) ⊎ ((spot : Spot) × IsRefusedAt begun list spot)
   one_of_both [] begun = inl ([], refl)
   one_of_both (statement [] ∷ list) begun = behind (one_of_both list begun) where
-    behind : ((modules : List (List Placed)) × AreModules begun list modules) ⊎ ((spot : Spot) × IsRefusedAt list spot) → ((modules : List (List Placed)) × AreModules begun list modules) ⊎ ((spot : Spot) × IsRefusedAt (statement [] ∷ list) spot)
+    behind : ((modules : List (List Placed)) × AreModules begun list modules) ⊎ ((spot : Spot) × IsRefusedAt begun list spot) → ((modules : List (List Placed)) × AreModules begun list modules) ⊎ ((spot : Spot) × IsRefusedAt begun (statement [] ∷ list) spot)
     behind (inl p) = inl p
-    behind (inr r) = inr (r.0, inr (tt, r.1))
+    behind (inr r) = inr (r.0, inr (begun, refl, r.1))
   one_of_both (statement (t ∷ ts) ∷ list) begun = by_statement (or_not (map terminal_of (t ∷ ts))) (λ further. one_of_both list further) where
-    by_statement : IsOrNot (IsStatement (map terminal_of (t ∷ ts))) → ((further : List Placed) → ((modules : List (List Placed)) × AreModules further list modules) ⊎ ((spot : Spot) × IsRefusedAt list spot))
-        → ((modules : List (List Placed)) × AreModules begun (statement (t ∷ ts) ∷ list) modules) ⊎ ((spot : Spot) × IsRefusedAt (statement (t ∷ ts) ∷ list) spot)
-    by_statement (inr none) rest = inr (t.spot, inl ((λ s. none s.0 s.1), refl))
-    by_statement (inl s) rest = behind (rest (begun ++ record { spot = t.spot; statement = s.0 } ∷ [])) where
-      behind : ((modules : List (List Placed)) × AreModules (begun ++ record { spot = t.spot; statement = s.0 } ∷ []) list modules) ⊎ ((spot : Spot) × IsRefusedAt list spot)
-          → ((modules : List (List Placed)) × AreModules begun (statement (t ∷ ts) ∷ list) modules) ⊎ ((spot : Spot) × IsRefusedAt (statement (t ∷ ts) ∷ list) spot)
-      behind (inl p) = inl (p.0, (s.0, s.1, p.1))
-      behind (inr r) = inr (r.0, inr ((s.0, s.1), r.1))
-  one_of_both (unfinished t ts ∷ list) begun = inr (t.spot, inl ((λ h. h), refl))
+    by_statement : IsOrNot (IsStatement (map terminal_of (t ∷ ts))) → ((further : List Placed) → ((modules : List (List Placed)) × AreModules further list modules) ⊎ ((spot : Spot) × IsRefusedAt further list spot))
+        → ((modules : List (List Placed)) × AreModules begun (statement (t ∷ ts) ∷ list) modules) ⊎ ((spot : Spot) × IsRefusedAt begun (statement (t ∷ ts) ∷ list) spot)
+    by_statement (inr none) rest = inr (t.spot, inl ((λ g. none g.1.0 g.1.1), refl))
+    by_statement (inl s) rest = by_place (may_stand begun (t ∷ ts)) refl (rest further) where
+      further : List Placed
+      further = begun ++ record { spot = t.spot; statement = s.0 } ∷ []
+
+      by_place : (b : Bool) → may_stand begun (t ∷ ts) ≡ b → ((modules : List (List Placed)) × AreModules further list modules) ⊎ ((spot : Spot) × IsRefusedAt further list spot)
+          → ((modules : List (List Placed)) × AreModules begun (statement (t ∷ ts) ∷ list) modules) ⊎ ((spot : Spot) × IsRefusedAt begun (statement (t ∷ ts) ∷ list) spot)
+      by_place true e (inl p) = inl (p.0, (s.0, s.1, e, p.1))
+      by_place true e (inr r) = inr (r.0, inr (further, (s.0, s.1, e, refl), r.1))
+      by_place false e both = inr (t.spot, inl ((λ g. let f : false ≡ true = sym e ∙ g.1.2 in absurd cc), refl))
+  one_of_both (unfinished t ts ∷ list) begun = inr (t.spot, inl ((λ h. h.1), refl))
   one_of_both (instruction line ∷ list) begun = by_test (is_module_instruction line.text) refl (one_of_both list []) where
-    by_test : (b : Bool) → is_module_instruction line.text ≡ b → ((modules : List (List Placed)) × AreModules [] list modules) ⊎ ((spot : Spot) × IsRefusedAt list spot)
-        → ((modules : List (List Placed)) × AreModules begun (instruction line ∷ list) modules) ⊎ ((spot : Spot) × IsRefusedAt (instruction line ∷ list) spot)
+    by_test : (b : Bool) → is_module_instruction line.text ≡ b → ((modules : List (List Placed)) × AreModules [] list modules) ⊎ ((spot : Spot) × IsRefusedAt [] list spot)
+        → ((modules : List (List Placed)) × AreModules begun (instruction line ∷ list) modules) ⊎ ((spot : Spot) × IsRefusedAt begun (instruction line ∷ list) spot)
     by_test true e (inl p) = inl (begun ∷ p.0, (e, p.0, refl, p.1))
-    by_test true e (inr r) = inr (r.0, inr (e, r.1))
-    by_test false e rest = inr (line.spot, inl ((λ h. let f : false ≡ true = sym e ∙ h in absurd cc), refl))
+    by_test true e (inr r) = inr (r.0, inr ([], (e, refl), r.1))
+    by_test false e rest = inr (line.spot, inl ((λ h. let f : false ≡ true = sym e ∙ h.1.0 in absurd cc), refl))
 
 -- lines have one thing
 module _ (one_list_of_tokens : (spot : Spot) (text : List ℕ) (tokens others : List Token) → AreTokens spot text tokens → AreTokens spot text others → tokens ≡ others) where

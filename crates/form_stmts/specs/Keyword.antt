@@ -5,7 +5,7 @@ use Rattle.std.specs.Str.{str_eq_ignore_ascii_case}
 use Rattle.form_ast.specs.declared.statement.Declared.{Declared}
 use Rattle.form_ast.specs.declared.statement.Declared.TheVariants.{Symbols, Vectors, Functions, CFunctions}
 use Rattle.form_stmts.specs.declared.keyword.Keyword.{Keyword}
-use Rattle.form_stmts.specs.declared.keyword.Keyword.TheVariants.{Names, Indices, Dimension, Switch, Drop, Skip, Local, Print}
+use Rattle.form_stmts.specs.declared.keyword.Keyword.TheVariants.{Names, Indices, Dimension, Switch, Set, Drop, Skip, Local, Id, Also, Print}
 
 -- the name is one of these words, in any case of letters
 abbrev pub is_one_of : List ℕ → List (List ℕ) → Bool
@@ -23,6 +23,7 @@ abbrev pub setting_keyword : List ℕ → Option Keyword
 setting_keyword name =
     if is_one_of name (codes "indices" ∷ codes "index" ∷ codes "i" ∷ []) then Some Indices
     else if is_one_of name (codes "dimension" ∷ []) then Some Dimension
+    else if is_one_of name (codes "set" ∷ []) then Some Set
     else if is_one_of name (codes "on" ∷ codes "off" ∷ []) then Some Switch
     else None
 
@@ -31,6 +32,8 @@ expression_keyword name =
     if is_one_of name (codes "drop" ∷ []) then Some Drop
     else if is_one_of name (codes "skip" ∷ []) then Some Skip
     else if is_one_of name (codes "local" ∷ codes "l" ∷ []) then Some Local
+    else if is_one_of name (codes "id" ∷ []) then Some Id
+    else if is_one_of name (codes "also" ∷ []) then Some Also
     else if is_one_of name (codes "print" ∷ []) then Some Print
     else None
 

@@ -1,4 +1,5 @@
 pub mod Begun
+pub mod Elements
 pub mod Indices
 pub mod Instruction
 pub mod Keyword
@@ -6,4 +7,5 @@ pub mod Line
 pub mod Program
 pub mod Progress
 pub mod Reading
+pub mod Rewriting
 pub mod Statement

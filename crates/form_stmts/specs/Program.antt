@@ -1,5 +1,5 @@
 -- The modules of lines, and where lines are refused.
-use Rattle.std.specs.Prelude.{◌≡◌, ◌⊎◌, List, [], ◌∷◌, ◌++◌, map, Bool, true, false, IsTrue, Option, Some, None, MatchBool, if◌then◌else◌}
+use Rattle.std.specs.Prelude.{◌≡◌, ◌⊎◌, List, [], ◌∷◌, ◌++◌, map, Bool, true, false, IsTrue, Option, Some, None, MatchBool, if◌then◌else◌, not, ◌||◌, ◌-◌, length, slice_get}
 use Rattle.form_base.specs.declared.spot.Spot.{Spot}
 use Rattle.form_stmts.specs.Line.{PlacedLine}
 use Rattle.form_lexer.specs.declared.mark.Mark as marks
@@ -9,10 +9,12 @@ use Rattle.form_lexer.specs.declared.token.TokenKind.{TokenKind}
 use Rattle.form_lexer.specs.declared.token.TokenKind.TheVariants as by_kind
 use Rattle.form_lexer.specs.Tokens.{AreTokens}
 use Rattle.form_ast.specs.declared.statement.Statement.{Statement}
+use Rattle.form_ast.specs.declared.statement.Statement.TheVariants.{Rewrite}
 use Rattle.form_ast.specs.declared.statement.Placed.{Placed}
 use Rattle.form_grammar.specs.Terminal.{terminal_of}
 use Rattle.form_stmts.specs.declared.error.ProgramError.{ProgramError}
 use Rattle.form_stmts.specs.declared.error.ProgramError.TheVariants.{BadSyntax, Memory}
+use Rattle.form_stmts.specs.Begun.{begins_also}
 use Rattle.form_stmts.specs.Instruction.{begins_with_period, is_module_instruction}
 use Rattle.form_stmts.specs.Statement.{IsStatement}
 
@@ -65,12 +67,33 @@ items begun [] = []
 items begun (token t ∷ lexed) = if is_semicolon t then statement begun ∷ items [] lexed else items (begun ++ t ∷ []) lexed
 items begun (period line ∷ lexed) = unfinished_items begun ++ instruction line ∷ items [] lexed
 
--- what is in the grammar: empty statements are
-abbrev pub IsInGrammar : Item → Type 0
-IsInGrammar (statement []) = Unit {0}
-IsInGrammar (statement (t ∷ ts)) = (s : Statement) × IsStatement (map terminal_of (t ∷ ts)) s
-IsInGrammar (unfinished t ts) = ⊥
-IsInGrammar (instruction line) = IsTrue (is_module_instruction line.text)
+-- the last of these statements is an `id` or an `also`
+abbrev pub is_rewrite : Statement → Bool
+is_rewrite (Rewrite r) = true
+is_rewrite _ = false
+
+abbrev pub is_rewrite_placed : Option Placed → Bool
+is_rewrite_placed None = false
+is_rewrite_placed (Some placed) = is_rewrite placed.statement
+
+abbrev pub ends_with_rewrite : List Placed → Bool
+ends_with_rewrite statements = is_rewrite_placed (slice_get statements (length statements - 1))
+
+-- an `also` stands behind an `id` or an `also` alone: these statements stand before it in its module
+abbrev pub may_stand : List Placed → List Token → Bool
+may_stand before tokens = not (begins_also tokens) || ends_with_rewrite before
+
+-- An item is in the grammar, where these statements stand before it in its module, and leads on to those. Empty
+-- statements are in the grammar.
+abbrev pub LeadsTo : Item → List Placed → List Placed → Type 0
+LeadsTo (statement []) before after = after ≡ before
+LeadsTo (statement (t ∷ ts)) before after =
+    (s : Statement) × IsStatement (map terminal_of (t ∷ ts)) s × IsTrue (may_stand before (t ∷ ts)) × (after ≡ before ++ record { spot = t.spot; statement = s } ∷ [])
+LeadsTo (unfinished t ts) before after = ⊥
+LeadsTo (instruction line) before after = IsTrue (is_module_instruction line.text) × (after ≡ [])
+
+abbrev pub IsInGrammar : List Placed → Item → Type 0
+IsInGrammar before item = (after : List Placed) × LeadsTo item before after
 
 -- where an item is refused: at its first token, or at its line
 abbrev pub StandsAt : Item → Spot → Type 0
@@ -79,16 +102,18 @@ StandsAt (statement (t ∷ ts)) spot = t.spot ≡ spot
 StandsAt (unfinished t ts) spot = t.spot ≡ spot
 StandsAt (instruction line) spot = line.spot ≡ spot
 
--- items are refused at this spot: there stands the first that isn't in the grammar
-abbrev pub IsRefusedAt : List Item → Spot → Type 0
-IsRefusedAt [] spot = ⊥
-IsRefusedAt (item ∷ others) spot = ((IsInGrammar item → ⊥) × StandsAt item spot) ⊎ (IsInGrammar item × IsRefusedAt others spot)
+-- Items are refused at this spot, where these statements stand before them in the module: there stands the first that
+-- isn't in the grammar.
+abbrev pub IsRefusedAt : List Placed → List Item → Spot → Type 0
+IsRefusedAt before [] spot = ⊥
+IsRefusedAt before (item ∷ others) spot =
+    ((IsInGrammar before item → ⊥) × StandsAt item spot) ⊎ ((after : List Placed) × LeadsTo item before after × IsRefusedAt after others spot)
 
 -- The lines are refused at this spot.
 pub record IsRefused (lines : List PlacedLine) (spot : Spot) : Type 0 where
   pub lexed : List Lexed
   pub are_lexed : AreLexed lines lexed
-  pub refused : IsRefusedAt (items [] lexed) spot
+  pub refused : IsRefusedAt [] (items [] lexed) spot
 
 -- The items are these modules, the first of which has these statements already. What stands behind the last
 -- instruction is in none.
@@ -96,7 +121,7 @@ abbrev pub AreModules : List Placed → List Item → List (List Placed) → Typ
 AreModules begun [] modules = modules ≡ []
 AreModules begun (statement [] ∷ others) modules = AreModules begun others modules
 AreModules begun (statement (t ∷ ts) ∷ others) modules =
-    (s : Statement) × IsStatement (map terminal_of (t ∷ ts)) s × AreModules (begun ++ record { spot = t.spot; statement = s } ∷ []) others modules
+    (s : Statement) × IsStatement (map terminal_of (t ∷ ts)) s × IsTrue (may_stand begun (t ∷ ts)) × AreModules (begun ++ record { spot = t.spot; statement = s } ∷ []) others modules
 AreModules begun (unfinished t ts ∷ others) modules = ⊥
 AreModules begun (instruction line ∷ others) modules =
     IsTrue (is_module_instruction line.text) × (rest : List (List Placed)) × (modules ≡ begun ∷ rest) × AreModules [] others rest

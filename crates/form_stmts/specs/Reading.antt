@@ -24,6 +24,11 @@ abbrev pub after_equals : List Terminal → Option (List Terminal)
 after_equals (by_terminal.Equals ∷ rest) = Some rest
 after_equals _ = None
 
+-- what follows a `:` at the front
+abbrev pub after_colon : List Terminal → Option (List Terminal)
+after_colon (by_terminal.Colon ∷ rest) = Some rest
+after_colon _ = None
+
 -- the front, and what is left behind it then
 abbrev pub with_rest : {X : Type 0} → Option X → List Terminal → Option (X × List Terminal)
 with_rest None rest = None

@@ -1,5 +1,5 @@
 -- The statements that terminals are.
-use Rattle.std.specs.Prelude.{◌≡◌, ◌⊎◌, List, [], ◌∷◌, ◌++◌, map, flat_map, codes, Bool, IsTrue, Option, Some, None, if◌then◌else◌}
+use Rattle.std.specs.Prelude.{◌≡◌, ◌⊎◌, List, [], ◌∷◌, ◌++◌, map, flat_map, codes, Bool, true, false, IsTrue, Option, Some, None, if◌then◌else◌}
 use Rattle.form_ast.specs.declared.expr.Spelled.{Spelled}
 use Rattle.form_ast.specs.declared.expr.Piece.{Piece}
 use Rattle.form_ast.specs.declared.index_list.Dimension.{Dimension}
@@ -7,13 +7,16 @@ use Rattle.form_ast.specs.declared.index_list.Dimension.TheVariants as dimension
 use Rattle.form_ast.specs.declared.index_list.SpelledIndex.{SpelledIndex}
 use Rattle.form_ast.specs.declared.statement.Statement.{Statement}
 use Rattle.form_ast.specs.declared.statement.Statement.TheVariants as statements
-use Rattle.form_grammar.specs.Grammar.{IsExpr}
+use Rattle.form_ast.specs.declared.statement.WrittenElements.{WrittenElements}
+use Rattle.form_ast.specs.declared.statement.WrittenElements.TheVariants as written_as
+use Rattle.form_grammar.specs.Grammar.{IsExpr, IsPatternText, IsRightText, written_elements}
 use Rattle.form_grammar.specs.declared.terminal.Terminal.{Terminal}
-use Rattle.form_grammar.specs.declared.terminal.Terminal.TheVariants.{Number, Name, Comma, Equals}
+use Rattle.form_grammar.specs.declared.terminal.Terminal.TheVariants.{Number, Name, Comma, Equals, Colon}
 use Rattle.form_stmts.specs.declared.keyword.Keyword.{Keyword}
-use Rattle.form_stmts.specs.declared.keyword.Keyword.TheVariants.{Names, Indices, Switch, Drop, Skip, Local, Print}
+use Rattle.form_stmts.specs.declared.keyword.Keyword.TheVariants.{Names, Indices, Switch, Set, Drop, Skip, Local, Id, Also, Print}
 use Rattle.form_stmts.specs.declared.keyword.Keyword.TheVariants as keyword
 use Rattle.form_stmts.specs.Keyword.{is_one_of, keyword_of}
+use Rattle.form_stmts.specs.Rewriting.{option_of, pattern_of, sides}
 
 -- a further name, behind a comma or none
 pub record Further : Type 0 where
@@ -81,15 +84,47 @@ pub record IsDefinition (terminals : List Terminal) (statement : Statement) : Ty
   pub right_side : IsExpr rest pieces
   pub kept : statement ≡ statements.Local name pieces
 
+-- names or signed whole numbers, parted by commas, at least one
+abbrev pub HasElements : WrittenElements → Type 0
+HasElements (written_as.Names []) = ⊥
+HasElements (written_as.Numbers []) = ⊥
+HasElements _ = Unit {0}
+
+abbrev pub AreElements : List Terminal → WrittenElements → Type 0
+AreElements terminals elements = (terminals ≡ written_elements elements) × HasElements elements
+
+-- name ":" elements
+pub record IsSet (terminals : List Terminal) (statement : Statement) : Type 0 where
+  pub name : Spelled
+  pub rest : List Terminal
+  pub elements : WrittenElements
+  pub written : terminals ≡ Name name ∷ Colon ∷ rest
+  pub are_elements : AreElements rest elements
+  pub kept : statement ≡ statements.Set name elements
+
+-- [","] [ option [","] ] pattern "=" right side
+pub record IsRewrite (is_also : Bool) (terminals : List Terminal) (statement : Statement) : Type 0 where
+  pub left : List Terminal
+  pub right : List Terminal
+  pub pattern_pieces : List Piece
+  pub right_pieces : List Piece
+  pub written : sides terminals ≡ Some (left, right)
+  pub is_pattern : IsPatternText (pattern_of left) pattern_pieces
+  pub is_right : IsRightText pattern_pieces right right_pieces
+  pub kept : statement ≡ statements.Rewrite (record { is_also = is_also; option = option_of left; pattern = pattern_pieces; right = right_pieces })
+
 -- what follows the keyword
 abbrev pub FollowsKeyword : Keyword → List Terminal → Statement → Type 0
 FollowsKeyword (Names declared) terminals statement = (names : List Spelled) × AreNames terminals names × (statement ≡ statements.Names declared names)
 FollowsKeyword Indices terminals statement = (indices : List SpelledIndex) × AreIndices terminals indices × (statement ≡ statements.Indices indices)
 FollowsKeyword keyword.Dimension terminals statement = (d : Dimension) × IsDimension terminals d × (statement ≡ statements.Dimension d)
 FollowsKeyword Switch terminals statement = IsSwitch terminals statement
+FollowsKeyword Set terminals statement = IsSet terminals statement
 FollowsKeyword Drop terminals statement = (names : List Spelled) × AreNamesOrNone terminals names × (statement ≡ statements.Drop names)
 FollowsKeyword Skip terminals statement = (names : List Spelled) × AreNamesOrNone terminals names × (statement ≡ statements.Skip names)
 FollowsKeyword Local terminals statement = IsDefinition terminals statement
+FollowsKeyword Id terminals statement = IsRewrite false terminals statement
+FollowsKeyword Also terminals statement = IsRewrite true terminals statement
 FollowsKeyword Print terminals statement = (names : List Spelled) × AreNamesOrNone terminals names × (statement ≡ statements.Print names)
 
 -- The terminals are this statement: a keyword, and what follows it.

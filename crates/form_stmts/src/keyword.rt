@@ -12,9 +12,13 @@ pub enum Keyword {
     Dimension,
     /// `On` or `Off`.
     Switch,
+    Set,
     Drop,
     Skip,
     Local,
+    /// `id`
+    Id,
+    Also,
     Print,
 }
 
@@ -45,6 +49,8 @@ fn setting(name: &str) -> Option<Keyword>
         Some(Keyword::Indices)
     } else if is("dimension") {
         Some(Keyword::Dimension)
+    } else if is("set") {
+        Some(Keyword::Set)
     } else if is("on") || is("off") {
         Some(Keyword::Switch)
     } else {
@@ -63,6 +69,10 @@ fn of_expressions(name: &str) -> Option<Keyword>
         Some(Keyword::Skip)
     } else if is("local") || is("l") {
         Some(Keyword::Local)
+    } else if is("id") {
+        Some(Keyword::Id)
+    } else if is("also") {
+        Some(Keyword::Also)
     } else if is("print") {
         Some(Keyword::Print)
     } else {

@@ -1,6 +1,7 @@
 //! Statements and modules: from the lines of a program to its statements as they are written.
 #![tactic(auto)]
 
+mod elements;
 mod error;
 mod indices;
 mod instruction;
@@ -9,6 +10,7 @@ pub mod laws;
 mod line;
 mod names;
 mod program;
+mod rewrite;
 mod statement;
 
 pub use error::ProgramError;

@@ -1,12 +1,12 @@
 ghost use Rattle.std.specs.Prelude.{◌≡◌, List, [], ◌∷◌, IfErr, IfOk, OnOk, IsTrue, IsNone, None, Option};
 ghost use Rattle.form_ast.specs.Lawful.{AreLawfulModules};
-ghost use Rattle.form_stmts.specs.Program.{IsProgram, IsRefusal, IsLexed, Lexed, statement, token as lexed_token, period, is_semicolon as is_semicolon_token, first_spot as first_spot_of};
+ghost use Rattle.form_stmts.specs.Program.{IsProgram, IsRefusal, IsLexed, Lexed, statement, token as lexed_token, period, is_semicolon as is_semicolon_token, first_spot as first_spot_of, ends_with_rewrite as ends_with_rewrite_of, may_stand as may_stand_there};
 ghost use Rattle.form_stmts.specs.Line.{PlacedLine};
 
 use crate::instruction::{begins_with_period, is_module_instruction};
-use crate::statement::{begins_definition, read_begun};
+use crate::statement::{begins_also, begins_definition, read_begun};
 use crate::{Line, ProgramError};
-use form_ast::{Module, Placed};
+use form_ast::{Module, Placed, Statement};
 use form_base::Spot;
 use form_grammar::{ReadError, RightSide, Terminal};
 use form_lexer::{Mark, Token, TokenKind, laws, lex};
@@ -41,6 +41,23 @@ fn first_spot(tokens: &[Token]) -> Option<Spot>
     }
 }
 
+/// Whether the last of the statements is an `id` or an `also`.
+fn ends_with_rewrite(statements: &[Placed]) -> bool
+    ensures { result ≡ ends_with_rewrite_of statements.now }
+{
+    match statements.last() {
+        Some(placed) => matches!(placed.statement, Statement::Rewrite(_)),
+        None => false,
+    }
+}
+
+/// Whether a statement may stand behind those of its module: an `also` stands behind an `id` or an `also` alone.
+fn may_stand(before: &[Placed], tokens: &[Token]) -> bool
+    ensures { result ≡ may_stand_there before.now tokens.now }
+{
+    !begins_also(tokens) || ends_with_rewrite(before)
+}
+
 impl Reader {
     ghost use Rattle.form_lexer.specs.declared.token.Token.{Token};
     ghost use Rattle.form_stmts.specs.Progress.{EndsStatement, HasBegun, IsRefusedItem, ReadTo, ReadsOn, Refuses, RefusesLine};
@@ -59,13 +76,16 @@ impl Reader {
     /// Ends the statement that is begun.
     fn end_statement(&mut self, alloc: Global) -> Result<(), ProgramError>
         ensures ended { OnOk result (EndsStatement self.old self.new) }
-        ensures refused { IfErr result (λ error. (begun : List Token) → HasBegun self.old begun → IsRefusedItem (statement begun) error) }
+        ensures refused { IfErr result (λ error. (begun : List Token) → HasBegun self.old begun → IsRefusedItem self.old.statements.items (statement begun) error) }
     {
         let tokens = mem::replace(&mut self.tokens, Vec::new(alloc));
         let right_side = self.right_side.take();
         let Some(spot) = first_spot(&tokens) else {
             return Ok(());
         };
+        if !may_stand(self.statements.as_slice(), tokens.as_slice()) {
+            return Err(ProgramError::BadSyntax(spot));
+        }
         match read_begun(alloc, tokens, right_side) {
             Ok(statement) => {
                 self.statements.push(Placed { spot, statement })?;
@@ -99,8 +119,8 @@ impl Reader {
         ensures read { OnOk result (ReadsOn self.old (period line.now ∷ []) self.new) }
         ensures refused { IfErr result (λ error. Refuses self.old (period line.now ∷ []) error) }
     {
-        if let Some(spot) = first_spot(&self.tokens) {
-            return Err(ProgramError::BadSyntax(spot));
+        if let Some(first) = first_spot(&self.tokens) {
+            return Err(ProgramError::BadSyntax(first));
         }
         if !is_module_instruction(line.text().as_bytes()) {
             return Err(ProgramError::BadSyntax(line.spot()));

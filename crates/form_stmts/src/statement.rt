@@ -4,13 +4,15 @@ ghost use Rattle.form_grammar.specs.Terminal.{terminal_of};
 ghost use Rattle.form_grammar.specs.Parts.{HasRead};
 ghost use Rattle.form_grammar.specs.declared.terminal.Terminal.{Terminal};
 ghost use Rattle.form_lexer.specs.declared.token.Token.{Token};
-ghost use Rattle.form_stmts.specs.Begun.{AreBegun, is_equals_kind, is_front, is_local_kind, is_name_kind};
-ghost use Rattle.form_stmts.specs.Reading.{after_equals, front_name, terminals, with_rest};
-ghost use Rattle.form_stmts.specs.Statement.{FollowsKeyword, IsDefinition, IsStatement};
+ghost use Rattle.form_stmts.specs.Begun.{AreBegun, begins_also as begins_also_so, is_also_kind, is_equals_kind, is_front, is_local_kind, is_name_kind};
+ghost use Rattle.form_stmts.specs.Reading.{after_colon, after_equals, front_name, terminals, with_rest};
+ghost use Rattle.form_stmts.specs.Statement.{FollowsKeyword, IsDefinition, IsSet, IsStatement};
 
+use crate::elements::read_elements;
 use crate::indices::{read_dimension, read_indices, read_switch};
 use crate::keyword::{Keyword, keyword_of};
 use crate::names::{read_names, read_names_or_none};
+use crate::rewrite::read_rewrite;
 use form_ast::{Spelled, Statement};
 use form_grammar::{ReadError, RightSide, Terminal, read_expr};
 use form_lexer::{Mark, Token, TokenKind};
@@ -55,6 +57,34 @@ fn read_definition(alloc: Global, tokens: IntoIter<Token>) -> Result<Statement, 
     }
 }
 
+/// Takes a `:` from the front.
+fn take_colon(tokens: &mut IntoIter<Token>) -> bool
+    ensures { after_colon (terminals tokens.old) ≡ (if result then Some (terminals tokens.new) else None) }
+{
+    match tokens.next() {
+        Some(token) => matches!(Terminal::from(token), Terminal::Colon),
+        None => false,
+    }
+}
+
+/// A set behind its keyword.
+fn read_set(alloc: Global, tokens: IntoIter<Token>) -> Result<Statement, ReadError>
+    ensures found { IfOk result (λ statement. IsSet (terminals tokens) statement) }
+    ensures none { IfErr result (λ error. Excludes error (IsSet (terminals tokens))) }
+{
+    let mut tokens = tokens;
+    let Some(name) = take_name(&mut tokens) else {
+        return Err(ReadError::BadSyntax);
+    };
+    if !take_colon(&mut tokens) {
+        return Err(ReadError::BadSyntax);
+    }
+    match read_elements(alloc, tokens) {
+        Ok(elements) => Ok(Statement::Set(name, elements)),
+        Err(error) => Err(error),
+    }
+}
+
 /// What follows a keyword.
 fn read_behind(
     alloc: Global,
@@ -78,6 +108,7 @@ fn read_behind(
             Err(error) => Err(error),
         },
         Keyword::Switch => read_switch(tokens),
+        Keyword::Set => read_set(alloc, tokens),
         Keyword::Drop => match read_names_or_none(alloc, tokens) {
             Ok(names) => Ok(Statement::Drop(names)),
             Err(error) => Err(error),
@@ -87,6 +118,8 @@ fn read_behind(
             Err(error) => Err(error),
         },
         Keyword::Local => read_definition(alloc, tokens),
+        Keyword::Id => read_rewrite(alloc, false, tokens),
+        Keyword::Also => read_rewrite(alloc, true, tokens),
         Keyword::Print => match read_names_or_none(alloc, tokens) {
             Ok(names) => Ok(Statement::Print(names)),
             Err(error) => Err(error),
@@ -115,6 +148,25 @@ pub fn begins_definition(tokens: &[Token]) -> bool
 {
     match tokens {
         [keyword, name, equals] => is_local(keyword) && is_name(name) && is_equals(equals),
+        _ => false,
+    }
+}
+
+/// Whether the tokens are those of an `also`, by its keyword.
+pub fn begins_also(tokens: &[Token]) -> bool
+    ensures { result ≡ begins_also_so tokens.now }
+{
+    match tokens {
+        [keyword, ..] => is_also(keyword),
+        _ => false,
+    }
+}
+
+fn is_also(token: &Token) -> bool
+    ensures { result ≡ is_also_kind token.now.kind }
+{
+    match &token.kind {
+        TokenKind::Name(name) => matches!(keyword_of(name.as_str()), Some(Keyword::Also)),
         _ => false,
     }
 }

@@ -1,10 +1,29 @@
 //! Programs against statements and spots that are written out by hand.
 
 use crate::{Line, ProgramError, read_program};
-use form_ast::{Module, Statement};
-use form_base::Spot;
+use form_ast::{Module, Rewrite, Statement, WrittenElements};
+use form_base::{Spot, Taking};
 use std::alloc::{AllocError, Global};
 use std::test::Fail;
+
+fn count_of(elements: &WrittenElements) -> usize {
+    match elements {
+        WrittenElements::Names(names) => names.as_slice().len(),
+        WrittenElements::Numbers(numbers) => numbers.as_slice().len(),
+    }
+}
+
+/// That of an `id` or an `also`, by its option.
+fn rewrite_letter(rewrite: &Rewrite) -> char {
+    match rewrite.option {
+        Some(Taking::Once) => '1',
+        Some(Taking::Only) => '=',
+        Some(Taking::Multi) => '*',
+        Some(Taking::Many) => '+',
+        None if rewrite.is_also => 'a',
+        None => 'r',
+    }
+}
 
 /// A statement's letter, and how many names or pieces it has.
 fn letter(statement: &Statement) -> (char, usize) {
@@ -12,10 +31,12 @@ fn letter(statement: &Statement) -> (char, usize) {
         Statement::Names(_, names) => ('s', names.as_slice().len()),
         Statement::Indices(indices) => ('i', indices.as_slice().len()),
         Statement::Dimension(_) => ('n', 1),
+        Statement::Set(_, elements) => ('e', count_of(elements)),
         Statement::Statistics => ('o', 0),
         Statement::Drop(names) => ('d', names.as_slice().len()),
         Statement::Skip(names) => ('k', names.as_slice().len()),
         Statement::Local(_, expr) => ('l', expr.as_slice().len()),
+        Statement::Rewrite(rewrite) => (rewrite_letter(rewrite), rewrite.pattern.as_slice().len()),
         Statement::Print(names) => ('p', names.as_slice().len()),
     }
 }
@@ -75,6 +96,36 @@ fn reads_programs(rt: HostRuntime) -> Result<(), Fail> {
         ".end",
     ];
     assert_eq!(rt; read(rt.alloc(), &texts)?.as_str(), "s2i3n1s1o0s1.");
+    Ok(())
+}
+
+#[test]
+fn reads_sets_and_patterns(rt: HostRuntime) -> Result<(), Fail> {
+    let texts = [
+        "S x,y; SET s:x,y; Set n: 1,-2,+3;",
+        "id x?s = y; ; Also,ONCE,y = x;",
+        "id many x*y = 1; also only d_(mu,nu) = 1;",
+        "id once = y; id once^2 = y; id multi once = y;",
+        ".end",
+    ];
+    assert_eq!(rt; read(rt.alloc(), &texts)?.as_str(), "s2e2e3r211+2=4r1r2*1.");
+    Ok(())
+}
+
+#[test]
+fn refuses_an_also_alone(rt: HostRuntime) -> Result<(), Fail> {
+    let alloc = rt.alloc();
+    assert_eq!(rt;
+        read(alloc, &["id x = y;", ".sort", "also y = x;", ".end"])?.as_str(),
+        "line 3"
+    );
+    assert_eq!(rt;
+        read(alloc, &["id x = y;", "Print;", "also y = x;", ".end"])?.as_str(),
+        "line 3"
+    );
+    assert_eq!(rt; read(alloc, &["Set s: x,1;", ".end"])?.as_str(), "line 1");
+    assert_eq!(rt; read(alloc, &["Set s x;", ".end"])?.as_str(), "line 1");
+    assert_eq!(rt; read(alloc, &["Set s:;", ".end"])?.as_str(), "line 1");
     Ok(())
 }
 

@@ -6,7 +6,10 @@ use Rattle.form_tree.specs.declared.tree.Link.{Link}
 use Rattle.form_tree.specs.declared.tree.Link.TheVariants as links
 use Rattle.form_tree.specs.declared.tree.Piece.{Piece}
 use Rattle.form_tree.specs.declared.tree.Piece.TheVariants as pieces
-use Rattle.form_tree.specs.Tree.{Sum, first, more, Product, one, times, Factor, number, symbol, stored, imaginary, dot, component, delta, function, parenthesis, Arguments, empty, further, Argument, index, vector, expression, link_of, pieces_of_sum, pieces_of_product, pieces_of_factor, pieces_of_arguments, pieces_of_argument}
+use Rattle.form_tree.specs.declared.tree.Base as kept
+use Rattle.form_tree.specs.declared.tree.Base.TheVariants as bases
+use Rattle.form_tree.specs.declared.tree.Exponent.{Exponent}
+use Rattle.form_tree.specs.Tree.{Sum, first, more, Product, one, times, Factor, number, symbol, wild, stored, imaginary, dot, component, delta, function, parenthesis, raised, Base, number_base, symbol_base, wild_base, dot_base, imaginary_base, component_base, delta_base, function_base, parenthesis_base, Arguments, empty, further, Argument, index, vector, field, expression, link_of, exponent, pieces_of_sum, pieces_of_product, pieces_of_factor, pieces_of_base, pieces_of_arguments, pieces_of_argument}
 
 -- what is before a product: whether there is a minus, where it is the first, or a sum and that
 data Lead : Type 0 where
@@ -56,9 +59,25 @@ calling around link position is_commuting args = record { around = around; link 
 abbrev with_argument : Calling → Argument → Calling
 with_argument c a = calling c.around c.link c.position c.is_commuting (further c.arguments a)
 
+-- a base of one piece
+abbrev base_of : kept.Base → Base
+base_of (bases.Number n) = number_base n
+base_of (bases.Symbol s) = symbol_base s
+base_of (bases.Wild s) = wild_base s
+base_of (bases.Dot p q) = dot_base p q
+base_of bases.Imaginary = imaginary_base
+base_of (bases.Component c) = component_base c
+base_of (bases.Delta i j) = delta_base i j
+
+-- a base to a power that a wildcard stands for
+abbrev raised_by : Base → Exponent → Factor
+raised_by b by = raised b by.is_over by.is_minus by.symbol
+
 abbrev step : State → Piece → State
 step (in_sum frames inner) (pieces.Number link n power) = in_sum frames (added inner link (number n power))
 step (in_sum frames inner) (pieces.Symbol link s power) = in_sum frames (added inner link (symbol s power))
+step (in_sum frames inner) (pieces.Wild link s is_over power) = in_sum frames (added inner link (wild s is_over power))
+step (in_sum frames inner) (pieces.Raised link b by) = in_sum frames (added inner link (raised_by (base_of b) by))
 step (in_sum frames inner) (pieces.Stored link e power) = in_sum frames (added inner link (stored e power))
 step (in_sum frames inner) (pieces.Imaginary link power) = in_sum frames (added inner link (imaginary power))
 step (in_sum frames inner) (pieces.Dot link p q power) = in_sum frames (added inner link (dot p q power))
@@ -67,11 +86,14 @@ step (in_sum frames inner) (pieces.Delta link i j power) = in_sum frames (added 
 step (in_sum frames inner) (pieces.Function link f is_commuting) = in_function frames (calling inner link f is_commuting empty)
 step (in_sum frames inner) (pieces.Open link) = in_sum (in_parenthesis inner link ∷ frames) nothing
 step (in_sum (in_parenthesis outer link ∷ frames) (begun l p)) (pieces.Close power) = in_sum frames (added outer link (parenthesis (sum_of l p) power))
+step (in_sum (in_parenthesis outer link ∷ frames) (begun l p)) (pieces.CloseRaised by) = in_sum frames (added outer link (raised_by (parenthesis_base (sum_of l p)) by))
 step (in_sum (in_argument c ∷ frames) (begun l p)) pieces.EndOfArgument = in_function frames (with_argument c (expression (sum_of l p)))
 step (in_function frames c) (pieces.Index i) = in_function frames (with_argument c (index i))
 step (in_function frames c) (pieces.Vector v) = in_function frames (with_argument c (vector v))
+step (in_function frames c) (pieces.Field w) = in_function frames (with_argument c (field w))
 step (in_function frames c) pieces.Argument = in_sum (in_argument c ∷ frames) nothing
 step (in_function frames c) (pieces.EndOfFunction power) = in_sum frames (added c.around c.link (function c.position c.is_commuting c.arguments power))
+step (in_function frames c) (pieces.EndOfRaisedFunction by) = in_sum frames (added c.around c.link (raised_by (function_base c.position c.is_commuting c.arguments) by))
 step s p = failed
 
 abbrev whole : State → Option Sum
@@ -106,6 +128,11 @@ closed : (frames : List Frame) (inner : Begun) (link : Link) (s : Sum) (power : 
 closed frames inner link (first o p) power = refl
 closed frames inner link (more s o p) power = refl
 
+closed_raised : (frames : List Frame) (inner : Begun) (link : Link) (s : Sum) (by : Exponent)
+    → step (in_sum (in_parenthesis inner link ∷ frames) (begun_of s)) (pieces.CloseRaised by) ≡ in_sum frames (added inner link (raised_by (parenthesis_base s) by))
+closed_raised frames inner link (first o p) by = refl
+closed_raised frames inner link (more s o p) by = refl
+
 argument_closed : (frames : List Frame) (c : Calling) (s : Sum)
     → step (in_sum (in_argument c ∷ frames) (begun_of s)) pieces.EndOfArgument ≡ in_function frames (with_argument c (expression s))
 argument_closed frames c (first o p) = refl
@@ -133,6 +160,7 @@ mutual
       → build (in_sum frames inner) (pieces_of_factor link f ++ rest) ≡ build (in_sum frames (added inner link f)) rest
   of_factor (number n power) frames inner link rest = refl
   of_factor (symbol s power) frames inner link rest = refl
+  of_factor (wild s is_over power) frames inner link rest = refl
   of_factor (stored e power) frames inner link rest = refl
   of_factor (imaginary power) frames inner link rest = refl
   of_factor (dot p q power) frames inner link rest = refl
@@ -145,6 +173,24 @@ mutual
       ap (build (in_sum (in_parenthesis inner link ∷ frames) nothing)) (append_assoc (pieces_of_sum s) (pieces.Close power ∷ []) rest)
       ∙ of_sum s (in_parenthesis inner link ∷ frames) (pieces.Close power ∷ rest)
       ∙ ap (λ (t : State). build t rest) (closed frames inner link s power)
+  of_factor (raised b is_over is_minus s) frames inner link rest = of_base b frames inner link (exponent is_over is_minus s) rest
+
+  of_base : (b : Base) (frames : List Frame) (inner : Begun) (link : Link) (by : Exponent) (rest : List Piece)
+      → build (in_sum frames inner) (pieces_of_base link b by ++ rest) ≡ build (in_sum frames (added inner link (raised_by b by))) rest
+  of_base (number_base n) frames inner link by rest = refl
+  of_base (symbol_base s) frames inner link by rest = refl
+  of_base (wild_base s) frames inner link by rest = refl
+  of_base (dot_base p q) frames inner link by rest = refl
+  of_base imaginary_base frames inner link by rest = refl
+  of_base (component_base c) frames inner link by rest = refl
+  of_base (delta_base i j) frames inner link by rest = refl
+  of_base (function_base f is_commuting args) frames inner link by rest =
+      ap (build (in_function frames (calling inner link f is_commuting empty))) (append_assoc (pieces_of_arguments args) (pieces.EndOfRaisedFunction by ∷ []) rest)
+      ∙ of_arguments args frames inner link f is_commuting (pieces.EndOfRaisedFunction by ∷ rest)
+  of_base (parenthesis_base s) frames inner link by rest =
+      ap (build (in_sum (in_parenthesis inner link ∷ frames) nothing)) (append_assoc (pieces_of_sum s) (pieces.CloseRaised by ∷ []) rest)
+      ∙ of_sum s (in_parenthesis inner link ∷ frames) (pieces.CloseRaised by ∷ rest)
+      ∙ ap (λ (t : State). build t rest) (closed_raised frames inner link s by)
 
   of_arguments : (args : Arguments) (frames : List Frame) (inner : Begun) (link : Link) (f : ℕ) (is_commuting : Bool) (rest : List Piece)
       → build (in_function frames (calling inner link f is_commuting empty)) (pieces_of_arguments args ++ rest) ≡ build (in_function frames (calling inner link f is_commuting args)) rest
@@ -158,6 +204,7 @@ mutual
       → build (in_function frames c) (pieces_of_argument a ++ rest) ≡ build (in_function frames (with_argument c a)) rest
   of_argument (index i) frames c rest = refl
   of_argument (vector v) frames c rest = refl
+  of_argument (field w) frames c rest = refl
   of_argument (expression s) frames c rest =
       ap (build (in_sum (in_argument c ∷ frames) nothing)) (append_assoc (pieces_of_sum s) (pieces.EndOfArgument ∷ []) rest)
       ∙ of_sum s (in_argument c ∷ frames) (pieces.EndOfArgument ∷ rest)

@@ -1,1 +1,3 @@
+pub mod Pattern
+pub mod Patterns
 pub mod Tree

@@ -1,7 +1,10 @@
-//! Right sides as they are carried out: every name stands as its Id, and a division as a negative power.
+//! Right sides as they are carried out, and patterns as they are matched: every name stands as its Id, and a division as a
+//! negative power.
 #![tactic(auto)]
 
 pub mod laws;
+mod pattern;
 mod tree;
 
-pub use tree::{Link, Piece, Tree};
+pub use pattern::{IndexName, Name, Pattern, PatternPiece, Sets, Sort};
+pub use tree::{Base, Exponent, Link, Piece, Tree};

@@ -15,6 +15,27 @@ pub enum Link {
     Times,
 }
 
+/// What stands below a power that a wildcard stands for, where it is one piece.
+#[derive(Clone, Copy, Debug, PartialEq, Eq)]
+pub enum Base {
+    Number(u128),
+    Symbol(Id),
+    /// A symbol that is a wildcard.
+    Wild(Id),
+    Dot(Id, Id),
+    Imaginary,
+    Component(Component),
+    Delta(Index, Index),
+}
+
+/// A power that a wildcard stands for, behind a sign, and whether its factor stands after `/`.
+#[derive(Clone, Copy, Debug, PartialEq, Eq)]
+pub struct Exponent {
+    pub is_over: bool,
+    pub is_minus: bool,
+    pub symbol: Id,
+}
+
 /// A piece of a right side. A factor that is divided by has a negative power.
 #[derive(Clone, Copy, Debug, PartialEq, Eq)]
 pub enum Piece {
@@ -29,6 +50,19 @@ pub enum Piece {
         link: Link,
         symbol: Id,
         power: i32,
+    },
+    /// A symbol that is a wildcard of the pattern, to a power, after `/` or not.
+    Wild {
+        link: Link,
+        symbol: Id,
+        is_over: bool,
+        power: i32,
+    },
+    /// A factor of one piece to a power that a wildcard stands for.
+    Raised {
+        link: Link,
+        base: Base,
+        by: Exponent,
     },
     /// The terms of a stored expression, to a power.
     Stored {
@@ -71,6 +105,10 @@ pub enum Piece {
     EndOfFunction {
         power: u32,
     },
+    /// A function ends, to a power that a wildcard stands for.
+    EndOfRaisedFunction(Exponent),
+    /// A field of arguments, by its number among those of the pattern.
+    Field(u32),
     /// An argument that is an index alone.
     Index(Index),
     /// An argument that is a vector alone.
@@ -87,6 +125,8 @@ pub enum Piece {
     Close {
         power: u32,
     },
+    /// A sum in parentheses ends, to a power that a wildcard stands for.
+    CloseRaised(Exponent),
 }
 
 /// A right side, flat, so that it is walked and dropped without recursion however deep it is: in a clause the list of its

@@ -2,9 +2,10 @@ use Rattle.std.proofs.Common.{◌≡◌, ◌+◌, ◌-◌, [], ◌∷◌, ◌++�
 use Rattle.std.specs.Prelude.{Some, None, Ok, Err, option_to_list}
 use Rattle.std.proofs.lemmas.List.{nil_from_length}
 use Rattle.std.proofs.lemmas.Result.{err_from_is_err_and}
+use Rattle.form_term.specs.Term.{index, vector, pieces_of_argument}
 use Rattle.form_expand.specs.Factors.{factor_left}
 use Rattle.form_expand.specs.Left.{Level, times_by}
-use Rattle.form_expand.specs.Listing.{nothing, refusal, before, limited, followed, signed}
+use Rattle.form_expand.specs.Listing.{nothing, refusal, limited, followed, signed}
 use Rattle.form_expand.specs.Next.{Takes, Goes, progress_of}
 use Rattle.form_expand.specs.Products.{level_of, product_left}
 use Rattle.form_expand.specs.Calls.{called}
@@ -20,7 +21,7 @@ use Rattle.form_expand.proofs.Keeping.{left_made, all_kept, one_kept, kept_past}
 use Rattle.form_expand.proofs.Products.{levels_close, levels_give, levels_open, levels_refuse, levels_done, levels_same}
 use Rattle.form_expand.proofs.Streamed.{gives_from, stream_ungiven, stream_on, stream_done}
 use Rattle.form_expand.proofs.Taking.{takes_one_to, takes_over, takes_none, takes_ungiven, goes_times_err, goes_unmade, goes_made, times_by_end}
-use Rattle.form_expand.proofs.Called.{some_from, list_called, index_read, vector_read, opens, none_opened, none_argued, argument_passed, argument_begun, expression_ended, expression_read, expression_refused, none_taken, one_taken, collected_all, refused_argument}
+use Rattle.form_expand.proofs.Called.{some_from, list_called, index_read, vector_read, field_read, opens, none_opened, none_argued, argument_passed, argument_begun, expression_ended, expression_read, expression_refused, none_taken, one_taken, collected_all, refused_argument}
 use Rattle.form_expand.proofs.Behind.{read_none, limited_pieces}
 use Rattle.form_expand.proofs.Parenthesized.{read_unended, read_ended, drop_next}
 use Rattle.form_expand.proofs.Vecs.{emptied}
@@ -249,11 +250,15 @@ function::read_argument-returns-in_default-clause-read t c = λ f k args e. reco
 
 pub function::read_argument-returns-in_ok-with_index-in-Index-clause-read : goal.function::read_argument-returns-in_ok-with_index-in-Index-clause-read
 function::read_argument-returns-in_ok-with_index-in-Index-clause-read t c = λ f k args e.
-    index_read c.args.limit c.args.stored.now f k c.args.arguments c.in_ok-with_index-in-Index.field-0 args e c.in-Index.index c.args.pieces.now c.in-Some.more.now (c.in-Some.ensures.cases.0 ∙ ap (λ p. p ∷ c.in-Some.more.now) c.in-Index.is) c.in_ok-with_index-in-Index.ensures
+    index_read c.args.limit c.args.stored.now f k c.args.arguments c.in_ok-with_index-in-Index.field-0 args e c.in-Index.index c.args.pieces.now c.in-Some.more.now (c.in-Some.ensures.cases.0 ∙ ap (λ p. p ∷ c.in-Some.more.now) c.in-Index.is) (c.in_ok-with_index-in-Index.ensures ∙ ap (λ i. c.args.arguments ++ pieces_of_argument (index i)) c.index.ensures)
 
 pub function::read_argument-returns-in_ok-with_vector-in-Vector-clause-read : goal.function::read_argument-returns-in_ok-with_vector-in-Vector-clause-read
 function::read_argument-returns-in_ok-with_vector-in-Vector-clause-read t c = λ f k args e.
-    vector_read c.args.limit c.args.stored.now f k c.args.arguments c.in_ok-with_vector-in-Vector.field-0 args e c.in-Vector.vector c.args.pieces.now c.in-Some.more.now (c.in-Some.ensures.cases.0 ∙ ap (λ p. p ∷ c.in-Some.more.now) c.in-Vector.is) c.in_ok-with_vector-in-Vector.ensures
+    vector_read c.args.limit c.args.stored.now f k c.args.arguments c.in_ok-with_vector-in-Vector.field-0 args e c.in-Vector.vector c.args.pieces.now c.in-Some.more.now (c.in-Some.ensures.cases.0 ∙ ap (λ p. p ∷ c.in-Some.more.now) c.in-Vector.is) (c.in_ok-with_vector-in-Vector.ensures ∙ ap (λ v. c.args.arguments ++ pieces_of_argument (vector v)) c.vector.ensures)
+
+pub function::read_argument-returns-in_ok-with_pieces-in-Field-clause-read : goal.function::read_argument-returns-in_ok-with_pieces-in-Field-clause-read
+function::read_argument-returns-in_ok-with_pieces-in-Field-clause-read t c = λ f k args e.
+    field_read c.args.limit c.args.stored.now f k c.args.arguments c.in_ok-with_pieces-in-Field.field-0 args e c.in-Field.field c.args.pieces.now c.in-Some.more.now (c.in-Some.ensures.cases.0 ∙ ap (λ p. p ∷ c.in-Some.more.now) c.in-Field.is) (c.in_ok-with_pieces-in-Field.ensures ∙ ap (λ ps. c.args.arguments ++ ps) c.field.ensures.pieces)
 
 pub function::read_expression-returns-in_default-clause-read : goal.function::read_expression-returns-in_default-clause-read
 function::read_expression-returns-in_default-clause-read t c = λ f k args e.
@@ -326,7 +331,7 @@ function::read_argument-returns-in_default-piece t c =
     let piece = c.in-Some.piece.now in
     let more = c.in-Some.more.now in
     let shut = none_opened piece c.in_default-piece.not-Function c.in_default-piece.not-Argument c.in_default-piece.not-Open in
-    let other = none_argued piece c.in_default-piece.not-Index c.in_default-piece.not-Vector in
+    let other = none_argued piece c.in_default-piece.not-Index c.in_default-piece.not-Vector c.in_default-piece.not-Field in
     record {
       read = λ f k args e. record {
         now = args;

@@ -1,4 +1,4 @@
-use Rattle.std.proofs.Common.{◌≡◌, Err, ap, ◌∙◌}
+use Rattle.std.proofs.Common.{Err, ap}
 use Rattle.form_expand.specs.Singles.{argument_of, of_collected}
 use Rattle.form_expand.proofs.function.terms_of.Goals as goal
 

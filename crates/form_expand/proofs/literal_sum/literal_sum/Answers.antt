@@ -1,6 +1,7 @@
 use Rattle.std.proofs.Common.{◌≡◌, ◌-◌, [], ◌∷◌, ◌++◌, length, drop, sym, eqb-true, ap, ◌∙◌, arith}
 use Rattle.std.proofs.lemmas.List.{nil_from_length, length-drop}
 use Rattle.form_expand.specs.Listing.{limited, followed}
+use Rattle.form_expand.specs.Meanings.{of_stored}
 use Rattle.form_expand.specs.Reading.{list_of_pieces}
 use Rattle.form_expand.specs.Walks.{all_of}
 use Rattle.form_expand.proofs.LiteralSums.{sum_begun, sum_more, sum_read}
@@ -10,13 +11,13 @@ pub loop-rest-init : goal.loop-rest-init
 loop-rest-init c = λ all. sum_begun c.args.limit all c.args.pieces.now c.in_ok-terms.terms.items c.in_ok-terms.ensures.items
 
 pub split_at-requires : goal.split_at-requires
-split_at-requires c = let h = rw c.in-Some-2.is at c.in_ok-literal.ensures in (h 0 []).within
+split_at-requires c = let h = rw c.in-Some-2.is at c.in_ok-literal.ensures in (h 0 (of_stored [])).within
 
 pub loop-rest-smaller : goal.loop-rest-smaller
 loop-rest-smaller c =
     let h = rw c.in-Some-2.is at c.in_ok-literal.ensures in
     let shorter : length c.split_at.result.1.now ≡ length c.loop-rest.rest.now - c.in-Some-2.read = ap length c.split_at.ensures.back ∙ length-drop c.in-Some-2.read c.loop-rest.rest.now in
-    omega (arith, shorter, (h 0 []).some, (h 0 []).within)
+    omega (arith, shorter, (h 0 (of_stored [])).some, (h 0 (of_stored [])).within)
 
 pub loop-rest-preserved : goal.loop-rest-preserved
 loop-rest-preserved c = λ all.

@@ -10,7 +10,7 @@ returns-in-Some c =
     let place = c.loop-place.place in
     let piece = c.index-pieces-place.result in
     let rest = drop_here ps place piece c.loop-place-test.true c.index-pieces-place.is in
-    sym (closing_here place c.loop-place.depth piece (drop place ps) (drop (place + 1) ps) c.in-Some.power rest (sym c.ended_by.ensures ∙ c.in-Some.is)) ∙ c.loop-place.invariant.place
+    sym (closing_here place c.loop-place.depth piece (drop place ps) (drop (place + 1) ps) c.in-Some.end rest (sym c.ended_by.ensures ∙ c.in-Some.is)) ∙ c.loop-place.invariant.place
 
 pub loop-place-preserved : goal.loop-place-preserved
 loop-place-preserved c =

@@ -1,4 +1,4 @@
-use Rattle.std.proofs.Common.{arith, ◌++◌, ◌∷◌, [], refl, sym, ap, ◌∙◌, map}
+use Rattle.std.proofs.Common.{arith, sym, ap, ◌∙◌, map}
 use Rattle.form_expand.specs.Factors.{factor_whole}
 use Rattle.form_expand.specs.Kept.{listing}
 use Rattle.form_expand.specs.Listing.{powers}
@@ -22,7 +22,7 @@ returns-in-Some-clause-read c = λ m.
 
 pub returns-in-Function-clause-read : goal.returns-in-Function-clause-read
 unfolding read_from fed
-returns-in-Function-clause-read c = rw c.in-Function.is c.read_function.ensures.read
+returns-in-Function-clause-read c = rw c.in-Function.is (rw c.function.ensures at c.read_function.ensures.read)
 
 pub returns-in-Open-clause-read : goal.returns-in-Open-clause-read
 unfolding read_from fed

@@ -1,6 +1,6 @@
 use Rattle.std.proofs.Common.{◌≡◌, ◌-◌, ◌++◌, ◌∷◌, [], false, sym, ap, ◌∙◌, arith, map, take, drop}
 use Rattle.form_expand.specs.Factors.{factor_whole}
-use Rattle.form_expand.specs.Listing.{powers}
+use Rattle.form_expand.specs.Bound.{powered, powered_by}
 use Rattle.form_expand.specs.Reading.{in_sum, fresh, read_from, list_of_pieces}
 use Rattle.form_expand.specs.Readers.{in_product, product_part}
 use Rattle.form_expand.proofs.Behind.{read_none}
@@ -16,12 +16,12 @@ returns-in_default-clause-read c = λ m.
 
 pub split_at-requires : goal.split_at-requires
 split_at-requires c =
-    let h = read_ended c.args.stored.now (in_sum (product_part c.args.limit false [])) 0 (in_sum (fresh c.args.limit)) [] c.args.pieces.now c.in-Some.len c.in-Some.power (sym c.closing.ensures ∙ c.in-Some.is) in
+    let h = read_ended c.args.stored.now (in_sum (product_part c.args.limit false [])) 0 (in_sum (fresh c.args.limit)) [] c.args.pieces.now c.in-Some.len c.in-Some.end (sym c.closing.ensures ∙ c.in-Some.is) in
     omega (arith, h.within)
 
 pub split_at-requires-2 : goal.split_at-requires-2
 split_at-requires-2 c =
-    let h = read_ended c.args.stored.now (in_sum (product_part c.args.limit false [])) 0 (in_sum (fresh c.args.limit)) [] c.args.pieces.now c.in-Some.len c.in-Some.power (sym c.closing.ensures ∙ c.in-Some.is) in
+    let h = read_ended c.args.stored.now (in_sum (product_part c.args.limit false [])) 0 (in_sum (fresh c.args.limit)) [] c.args.pieces.now c.in-Some.len c.in-Some.end (sym c.closing.ensures ∙ c.in-Some.is) in
     omega (arith, h.within, c.split_at.ensures.back_len)
 
 pub returns-clause-read : goal.returns-clause-read
@@ -30,12 +30,12 @@ returns-clause-read c = λ m.
     let all = c.args.stored.now in
     let ps = c.args.pieces.now in
     let len = c.in-Some.len in
-    let power = c.in-Some.power in
+    let end = c.in-Some.end in
     let old = map (factor_whole max) c.args.factors.now.items in
-    let h = read_ended all (in_sum (product_part max m old)) 0 (in_sum (fresh max)) [] ps len power (sym c.closing.ensures ∙ c.in-Some.is) in
+    let h = read_ended all (in_sum (product_part max m old)) 0 (in_sum (fresh max)) [] ps len end (sym c.closing.ensures ∙ c.in-Some.is) in
     let e : len - 0 ≡ len = omega arith in
     let here = rw e at h.read in
-    let factor = c.in_ok-parenthesis.ensures ∙ ap (λ qs. powers max (list_of_pieces max all qs) power) c.split_at.ensures.front in
-    let factors = ap (map (factor_whole max)) c.in_ok-push.ensures.items ∙ factor_pushed max c.args.factors.now.items (c.in_ok-parenthesis.field-0) (powers max (list_of_pieces max all (take len ps)) power) factor in
+    let factor = c.in_ok-ended_sum.ensures ∙ ap (λ qs. powered max (powered_by all end (list_of_pieces max all qs))) c.split_at.ensures.front in
+    let factors = ap (map (factor_whole max)) c.in_ok-push.ensures.items ∙ factor_pushed max c.args.factors.now.items (c.in_ok-ended_sum.field-0) (powered max (powered_by all end (list_of_pieces max all (take len ps)))) factor in
     let behind = c.split_at-2.ensures.back ∙ ap (drop 1) c.split_at.ensures.back ∙ drop_next len ps in
-    here ∙ sym (ap (λ fs. read_from all (in_product max m fs) c.split_at-2.result.1.now) factors ∙ ap (read_from all (in_product max m (old ++ powers max (list_of_pieces max all (take len ps)) power ∷ []))) behind)
+    here ∙ sym (ap (λ fs. read_from all (in_product max m fs) c.split_at-2.result.1.now) factors ∙ ap (read_from all (in_product max m (old ++ powered max (powered_by all end (list_of_pieces max all (take len ps))) ∷ []))) behind)

@@ -5,4 +5,4 @@ pub returns-clause-some : goal.returns-clause-some
 returns-clause-some c = some_outcome
 
 pub returns-clause-one : goal.returns-clause-one
-returns-clause-one c settings statements standing = one_outcome settings statements standing c.one_tree.ensures
+returns-clause-one c settings statements standing = one_outcome settings statements standing c.one_tree.ensures c.one_pattern.ensures

@@ -1,5 +1,11 @@
+use Rattle.std.proofs.Common.{List}
+use Rattle.form_flow.specs.Parts.{AreParts}
+use Rattle.form_flow.specs.Rewriting.{Part, through}
+use Rattle.form_module.specs.Inputs.{inputs_left}
+use Rattle.form_module.specs.Module.{made_of}
 use Rattle.form_module.proofs.Collected.{IsGathered}
 use Rattle.form_module.proofs.result.collect.Given as goal
 
-abbrev pub invariant-loop : goal.invariant-loop
-invariant-loop l = IsGathered l.fn.list l.list l.collector
+abbrev pub invariant-loop-made : goal.invariant-loop-made
+invariant-loop-made l = (pss : List (List Part)) → AreParts l.statements.groups pss →
+    IsGathered (through (made_of l.statements.limit pss) (inputs_left l.fn.inputs)) (through (made_of l.statements.limit pss) (inputs_left l.inputs)) l.collector

@@ -1,9 +1,9 @@
-use Rattle.std.proofs.Common.{◌≡◌, suc, Ok, ap, sym, ◌∙◌, refl}
+use Rattle.std.proofs.Common.{◌≡◌, suc, Ok, ap, sym, ◌∙◌}
 use Rattle.std.proofs.lemmas.Result.{err_from_is_err_and}
 use Rattle.form_expand.specs.Kept.{listing}
 use Rattle.form_expand.specs.Left.{times_by}
 use Rattle.form_expand.specs.Listing.{powers, limited}
-use Rattle.form_expand.specs.Walks.{walk_left, walk_whole}
+use Rattle.form_expand.specs.Walks.{walk_left}
 use Rattle.form_expand.proofs.Streamed.{gives_from, gives_err_from}
 use Rattle.form_expand.proofs.factor.Factor.begin_list.Goals as goal
 

@@ -1,7 +1,7 @@
-use Rattle.std.proofs.Common.{◌+◌, arith, refl}
+use Rattle.std.proofs.Common.{◌+◌, arith}
 use Rattle.std.proofs.lemmas.Result.{err_from_is_err_and}
 use Rattle.form_expand.specs.Kept.{listing}
-use Rattle.form_expand.specs.Walks.{opened_list, step_level}
+use Rattle.form_expand.specs.Walks.{step_level}
 use Rattle.form_expand.proofs.Taking.{takes_one_to, takes_over, takes_none, takes_ungiven}
 use Rattle.form_expand.proofs.power.Step.take.Goals as goal
 

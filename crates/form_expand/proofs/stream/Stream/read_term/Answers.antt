@@ -1,5 +1,6 @@
 use Rattle.std.proofs.Common.{◌-◌, [], ap, ◌∙◌}
 use Rattle.form_expand.specs.Listing.{before, limited, followed, signed}
+use Rattle.form_expand.specs.Meanings.{of_stored}
 use Rattle.form_expand.specs.Products.{product_left}
 use Rattle.form_expand.specs.Reading.{list_of_pieces}
 use Rattle.form_expand.specs.Streams.{stream_left, stream_before}
@@ -7,7 +8,7 @@ use Rattle.form_expand.proofs.Streamed.{stream_literal}
 use Rattle.form_expand.proofs.stream.Stream.read_term.Goals as goal
 
 pub split_at-requires : goal.split_at-requires
-split_at-requires c = let h = rw c.in-Some.is at c.in_ok-literal.ensures in (h 0 []).within
+split_at-requires c = let h = rw c.in-Some.is at c.in_ok-literal.ensures in (h 0 (of_stored [])).within
 
 pub returns-clause-found : goal.returns-clause-found
 unfolding stream_left stream_before

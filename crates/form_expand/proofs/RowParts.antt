@@ -1,0 +1,80 @@
+-- The lists of a row, each within the limit.
+use Rattle.std.proofs.Common.{◌≡◌, ℕ, zero, suc, List, [], ◌∷◌, ◌++◌, map, refl, sym, ap, ◌∙◌, arith, append_assoc, append-nil}
+use Rattle.std.proofs.lemmas.List.{map-append}
+use Rattle.form_base.specs.declared.cause.Cause.{Cause}
+use Rattle.form_base.specs.declared.cause.Cause.TheVariants.{ExpandLimit}
+use Rattle.form_term.specs.declared.monomial.Monomial.{Monomial}
+use Rattle.form_expand.specs.declared.row.Part.{Part}
+use Rattle.form_expand.specs.declared.row.Part.TheVariants as parts
+use Rattle.form_expand.specs.declared.factor.Factor.{Factor}
+use Rattle.form_expand.specs.Factors.{factor_whole}
+use Rattle.form_expand.specs.Kept.{listing}
+use Rattle.form_expand.specs.Left.{row, row_behind}
+use Rattle.form_expand.specs.Listing.{Listing, nothing, single, refusal, limited}
+use Rattle.form_expand.specs.Parts.{part_list}
+use Rattle.form_expand.specs.Singles.{once}
+use Rattle.form_expand.proofs.Behind.{limited_pieces}
+use Rattle.form_expand.proofs.Listings.{limited_within, limited_again, limited_none, limited_refusal, pairs_refusal}
+
+-- a list of a row as the limit cuts it
+abbrev pub bounded : ℕ → Part → Listing
+bounded max p = limited max (part_list max p)
+
+-- which changes nothing where one term is within the limit
+bounded_same : (k : ℕ) (p : Part) → bounded (suc k) p ≡ part_list (suc k) p
+bounded_same k (parts.Tree pieces names) = limited_pieces (suc k) names.now pieces.now
+bounded_same k (parts.List whole) = limited_again (suc k) (listing whole)
+bounded_same k (parts.Word term) = limited_within (suc k) (single (once term)) (omega arith)
+
+all_same : (k : ℕ) (ps : List Part) → map (bounded (suc k)) ps ≡ map (part_list (suc k)) ps
+all_same k [] = refl
+all_same k (p ∷ ps) = ap (λ l. l ∷ map (bounded (suc k)) ps) (bounded_same k p) ∙ ap (λ ls. part_list (suc k) p ∷ ls) (all_same k ps)
+
+refused_row : (max : ℕ) (cause : Cause) (ls : List Listing) → row_behind max (refusal cause) ls ≡ refusal cause
+unfolding row_behind
+refused_row max cause [] = refl
+refused_row max cause (l ∷ ls) =
+    ap (λ front. row_behind max front ls) (ap (limited max) (pairs_refusal cause l) ∙ limited_refusal max cause)
+    ∙ refused_row max cause ls
+
+-- within a limit of no terms the first term is refused, whatever stands behind it
+no_row : (m : Monomial) (ls : List Listing) → row 0 (single m ∷ ls) ≡ refusal ExpandLimit
+unfolding row
+no_row m ls = ap (λ front. row_behind 0 front ls) (limited_none m nothing) ∙ refused_row 0 ExpandLimit ls
+
+first_same : (max : ℕ) (l : Listing) (ls : List Listing) → row max (limited max l ∷ ls) ≡ row max (l ∷ ls)
+unfolding row
+first_same max l ls = ap (λ front. row_behind max front ls) (limited_again max l)
+
+-- a row of lists within the limit is the row of the lists
+pub row_of_parts : (max : ℕ) (m : Monomial) (ps : List Part) → row max (limited max (single m) ∷ map (bounded max) ps) ≡ row max (single m ∷ map (part_list max) ps)
+row_of_parts zero m ps = first_same 0 (single m) (map (bounded 0) ps) ∙ no_row m (map (bounded 0) ps) ∙ sym (no_row m (map (part_list 0) ps))
+row_of_parts (suc k) m ps = first_same (suc k) (single m) (map (bounded (suc k)) ps) ∙ ap (λ ls. row (suc k) (single m ∷ ls)) (all_same k ps)
+
+-- The factors of a row, by the parts that are read and those that are left.
+
+pub factors_begin : (max : ℕ) (fs : List Factor) (f : Factor) (m : Monomial) (ps all : List Part) → fs ≡ f ∷ [] → factor_whole max f ≡ limited max (single m) → ps ≡ all
+    → map (factor_whole max) fs ++ map (bounded max) ps ≡ limited max (single m) ∷ map (bounded max) all
+factors_begin max fs f m ps all first is same =
+    ap (λ gs. map (factor_whole max) gs ++ map (bounded max) ps) first
+    ∙ ap (λ l. l ∷ map (bounded max) ps) is
+    ∙ ap (λ qs. limited max (single m) ∷ map (bounded max) qs) same
+
+pub factors_more : (max : ℕ) (fs now : List Factor) (f : Factor) (p : Part) (ps rest : List Part) (whole : List Listing)
+    → map (factor_whole max) fs ++ map (bounded max) ps ≡ whole → ps ≡ p ∷ rest → now ≡ fs ++ f ∷ [] → factor_whole max f ≡ bounded max p
+    → map (factor_whole max) now ++ map (bounded max) rest ≡ whole
+factors_more max fs now f p ps rest whole so_far next is made =
+    ap (λ gs. map (factor_whole max) gs ++ map (bounded max) rest) is
+    ∙ ap (λ ls. ls ++ map (bounded max) rest) (map-append (factor_whole max) fs (f ∷ []))
+    ∙ append_assoc (map (factor_whole max) fs) (factor_whole max f ∷ []) (map (bounded max) rest)
+    ∙ ap (λ l. map (factor_whole max) fs ++ l ∷ map (bounded max) rest) made
+    ∙ ap (λ qs. map (factor_whole max) fs ++ map (bounded max) qs) (sym next)
+    ∙ so_far
+
+pub factors_done : (max : ℕ) (fs : List Factor) (m : Monomial) (ps all : List Part) (product : Listing)
+    → map (factor_whole max) fs ++ map (bounded max) ps ≡ limited max (single m) ∷ map (bounded max) all → ps ≡ [] → product ≡ row max (map (factor_whole max) fs)
+    → product ≡ row max (single m ∷ map (part_list max) all)
+factors_done max fs m ps all product so_far none is =
+    is
+    ∙ ap (row max) (sym (append-nil (map (factor_whole max) fs)) ∙ ap (λ qs. map (factor_whole max) fs ++ map (bounded max) qs) (sym none) ∙ so_far)
+    ∙ row_of_parts max m all

@@ -1,0 +1,243 @@
+-- What is put in between the parts of a word that was cut.
+use Rattle.std.proofs.Common.{◌≡◌, ℕ, zero, suc, ◌+◌, ◌-◌, ◌<◌, ◌≤◌, Bool, true, false, ◌||◌, List, [], ◌∷◌, ◌++◌, Option, Some, None, Result, Ok, Err, IfOk, if◌then◌else◌, length, get_or, flat_map, map, take, drop, replicate, refl, sym, ap, subst, ◌∙◌, append_assoc, append-nil, length-drop, arith}
+use Rattle.std.specs.Prelude.{slice_get}
+use Rattle.std.specs.List.{list_any}
+use Rattle.std.specs.Option.{unwrap_or}
+use Rattle.std.proofs.lemmas.List.{map-append, map_more, take_all}
+use Rattle.std.proofs.lemmas.Result.{IfOk-weaker}
+use Rattle.form_term.specs.declared.monomial.Monomial.{Monomial}
+use Rattle.form_term.specs.Term.{Call, Term, nothing, of_others}
+use Rattle.form_tree.specs.Tree.{Sum}
+use Rattle.form_match.specs.Values.{Binding}
+use Rattle.form_rewrite.specs.declared.taken.Cut.{Cut}
+use Rattle.form_rewrite.specs.declared.taken.Origin.{Origin}
+use Rattle.form_rewrite.specs.declared.taken.Origin.TheVariants.{Given, TakenBy}
+use Rattle.form_rewrite.specs.declared.taken.Taken.{Taken}
+use Rattle.form_expand.specs.declared.row.Part.{Part}
+use Rattle.form_expand.specs.declared.row.Part.TheVariants as parts
+use Rattle.form_expand.specs.Expanding.{list_of_sum}
+use Rattle.form_expand.specs.Left.{row}
+use Rattle.form_expand.specs.Listing.{Listing, single}
+use Rattle.form_expand.specs.Meanings.{Meanings, bound_to, no_meanings}
+use Rattle.form_expand.specs.Parts.{part_list}
+use Rattle.form_expand.specs.Singles.{once}
+use Rattle.form_flow.specs.declared.between.Inserted.{Inserted}
+use Rattle.form_flow.specs.Rests.{cut_list, first_cut, names_in, place_of, put_in_named}
+use Rattle.form_flow.specs.Rewriting.{Rest, and_taken, any_match, behind_by, behind_first, from_cuts, is_by_match, list_of_rest, no_list, put_in_by, right_with, word_factor}
+use Rattle.form_flow.specs.Words.{front, of_word}
+
+-- ---- cuts with what is put in there
+
+pub places_are : (max : ℕ) (bs : List Inserted) → map place_of bs ≡ map (λ c. c.0) (map (cut_list max) bs)
+places_are max [] = refl
+places_are max (b ∷ bs) = ap (λ ns. b.place ∷ ns) (places_are max bs)
+
+drop_first : {X : Type 0} (n : ℕ) (xs : List X) (y : X) (ys : List X) (d : X) → drop n xs ≡ y ∷ ys → (get_or xs n d ≡ y) × (drop (n + 1) xs ≡ ys)
+drop_first zero [] y ys d e = cc
+drop_first zero (x ∷ xs) y ys d e = (cc, cc)
+drop_first (suc n) [] y ys d e = cc
+drop_first (suc n) (x ∷ xs) y ys d e =
+    let p = drop_first n xs y ys d e in
+    let same : suc n + 1 ≡ suc (n + 1) = omega arith in
+    (p.0, ap (λ m. drop m (x ∷ xs)) same ∙ p.1)
+
+-- the next list that was put in earlier
+pub next_list : (max : ℕ) (all : List (ℕ × Listing)) (taken n : ℕ) (old new : List Inserted) (one : Inserted) → taken ≡ n → old ≡ one ∷ new
+    → map (cut_list max) old ≡ drop taken all
+    → (map (cut_list max) new ≡ drop (n + 1) all) × (part_list max one.list ≡ (get_or all n no_list).1)
+next_list max all taken n old new one same is so_far =
+    let here : drop n all ≡ cut_list max one ∷ map (cut_list max) new = ap (λ m. drop m all) (sym same) ∙ sym so_far ∙ ap (map (cut_list max)) is in
+    let p = drop_first n all (cut_list max one) (map (cut_list max) new) no_list here in
+    (sym p.1, sym (ap (λ e. e.1) p.0))
+
+-- what was put in at an earlier cut
+pub given_in : {E : Type 0} (A : Type 0) (max : ℕ) (all : List (ℕ × Listing)) (names : List (Option Meanings)) (o : Origin) (n : ℕ) (Q : Sum → Type 0) (r : Result Part E) → o ≡ Given n
+    → IfOk r (λ list. A × (part_list max list ≡ (get_or all n no_list).1)) → IfOk r (λ list. A × ((s : Sum) → Q s → part_list max list ≡ put_in_named max s all names o))
+given_in A max all names o n Q (Ok list) is h = (h.0, λ s q. h.1 ∙ ap (put_in_named max s all names) (sym is))
+given_in A max all names o n Q (Err e) is h = tt
+
+-- what holds for each sum
+pub for_each : {X E S : Type 0} (A : Type 0) (Q : S → Type 0) (P : S → X → Type 0) (r : Result X E) → A → ((s : S) → Q s → IfOk r (P s)) → IfOk r (λ x. A × ((s : S) → Q s → P s x))
+for_each A Q P (Ok x) a h = (a, h)
+for_each A Q P (Err e) a h = tt
+
+-- a cut, with what is put in by what names stand for
+abbrev pub named : ℕ → Sum → List (ℕ × Listing) → List (Option Meanings) → Cut → ℕ × Listing
+named max s before names c = (c.place, put_in_named max s before names c.origin)
+
+pub one_more_cut : (max : ℕ) (s : Sum) (before : List (ℕ × Listing)) (names : List (Option Meanings)) (cs : List Cut) (i : ℕ) (c : Cut) (between now : List Inserted) (list : Part)
+    → i < length cs → c ≡ get_or cs i c → now ≡ between ++ (record { place = c.place; list = list }) ∷ [] → part_list max list ≡ put_in_named max s before names c.origin
+    → map (cut_list max) between ≡ map (named max s before names) (take i cs) → map (cut_list max) now ≡ map (named max s before names) (take (i + 1) cs)
+one_more_cut max s before names cs i c between now list within at is same so_far =
+    ap (map (cut_list max)) is
+    ∙ map-append (cut_list max) between ((record { place = c.place; list = list }) ∷ [])
+    ∙ ap (λ ls. ls ++ (c.place, part_list max list) ∷ []) so_far
+    ∙ ap (λ l. map (named max s before names) (take i cs) ++ (c.place, l) ∷ []) same
+    ∙ ap (λ (d : Cut). map (named max s before names) (take i cs) ++ named max s before names d ∷ []) at
+    ∙ sym (map_more (named max s before names) cs i c within)
+
+pub all_cuts : (max : ℕ) (s : Sum) (before : List (ℕ × Listing)) (names : List (Option Meanings)) (cs : List Cut) (i : ℕ) (between : List Inserted)
+    → length cs ≤ i → map (cut_list max) between ≡ map (named max s before names) (take i cs) → map (cut_list max) between ≡ map (named max s before names) cs
+all_cuts max s before names cs i between past so_far = so_far ∙ ap (map (named max s before names)) (take_all i cs past)
+
+-- ---- what names stand for, match by match
+
+pub one_bound : (names now : List (Option Meanings)) (o : Option Meanings) (matches rest : List (List Binding)) (bs : List Binding) (all : List Meanings)
+    → now ≡ names ++ o ∷ [] → names_in o ≡ bound_to bs → matches ≡ bs ∷ rest → map names_in names ++ map bound_to matches ≡ all → map names_in now ++ map bound_to rest ≡ all
+one_bound names now o matches rest bs all is same next so_far =
+    ap (λ ns. map names_in ns ++ map bound_to rest) is
+    ∙ ap (λ ms. ms ++ map bound_to rest) (map-append names_in names (o ∷ []))
+    ∙ append_assoc (map names_in names) (names_in o ∷ []) (map bound_to rest)
+    ∙ ap (λ m. map names_in names ++ m ∷ map bound_to rest) same
+    ∙ ap (λ ms. map names_in names ++ map bound_to ms) (sym next)
+    ∙ so_far
+
+pub all_bound : (names : List (Option Meanings)) (rest : List (List Binding)) (all : List Meanings) → rest ≡ [] → map names_in names ++ map bound_to rest ≡ all → map names_in names ≡ all
+all_bound names rest all none so_far = sym (append-nil (map names_in names)) ∙ ap (λ ms. map names_in names ++ map bound_to ms) (sym none) ∙ so_far
+
+get_mapped : {X Y : Type 0} (f : X → Y) (xs : List X) (i : ℕ) (d : X) → get_or (map f xs) i (f d) ≡ f (get_or xs i d)
+get_mapped f [] i d = refl
+get_mapped f (x ∷ xs) zero d = refl
+get_mapped f (x ∷ xs) (suc i) d = get_mapped f xs i d
+
+-- by the bindings of the match
+pub by_bindings : (names : List (Option Meanings)) (matches : List (List Binding)) (n : ℕ) → map names_in names ≡ map bound_to matches
+    → names_in (get_or names n None) ≡ bound_to (get_or matches n [])
+by_bindings names matches n same =
+    sym (get_mapped names_in names n None)
+    ∙ ap (λ ms. get_or ms n no_meanings) same
+    ∙ get_mapped bound_to matches n []
+
+-- ---- what is taken
+
+abbrev by_match : ℕ → Sum → Rest → Taken → Cut → ℕ × Listing
+by_match max s r x c = (c.place, put_in_by max s r.cuts x.matches c.origin)
+
+each_cut : (max : ℕ) (s : Sum) (r : Rest) (x : Taken) (names : List (Option Meanings)) (cs : List Cut) → map names_in names ≡ map bound_to x.matches
+    → map (named max s r.cuts names) cs ≡ map (by_match max s r x) cs
+each_cut max s r x names [] same = refl
+each_cut max s r x names (c ∷ cs) same =
+    ap (λ l. (c.place, l) ∷ map (named max s r.cuts names) cs) (one c.origin) ∙ ap (λ ls. by_match max s r x c ∷ ls) (each_cut max s r x names cs same)
+  where
+    one : (o : Origin) → put_in_named max s r.cuts names o ≡ put_in_by max s r.cuts x.matches o
+    one (Given n) = refl
+    one (TakenBy n) = ap (λ (ms : Meanings). list_of_sum max ms s) (by_bindings names x.matches n same)
+
+-- where no match took a stretch
+no_match : (max : ℕ) (s : Sum) (r : Rest) (x : Taken) (cs : List Cut) → any_match cs ≡ false → map (named max s r.cuts []) cs ≡ map (by_match max s r x) cs
+no_match max s r x [] h = refl
+no_match max s r x (c ∷ cs) h = by c.origin refl h (λ g. no_match max s r x cs g)
+  where
+    by : (o : Origin) → c.origin ≡ o → (is_by_match o || any_match cs) ≡ false → (any_match cs ≡ false → map (named max s r.cuts []) cs ≡ map (by_match max s r x) cs)
+        → map (named max s r.cuts []) (c ∷ cs) ≡ map (by_match max s r x) (c ∷ cs)
+    by (Given n) e g later =
+        ap (λ o. (c.place, put_in_named max s r.cuts [] o) ∷ map (named max s r.cuts []) cs) e
+        ∙ ap (λ o. (c.place, put_in_by max s r.cuts x.matches o) ∷ map (named max s r.cuts []) cs) (sym e)
+        ∙ ap (λ ls. by_match max s r x c ∷ ls) (later g)
+    by (TakenBy n) e g later = cc
+
+abbrev after : ℕ → Sum → Rest → Taken → List (ℕ × Listing) → Bool → Rest
+after max s r x cuts b = record {
+  left = x.left;
+  cuts = cuts;
+  behind = r.behind ++ (if b then [] else flat_map (λ bs. replicate x.times (right_with max s bs)) x.matches);
+  has_matched = true;
+}
+
+-- a right side stands at its cut
+pub put_at_cuts : (max : ℕ) (s : Sum) (r : Rest) (x : Taken) (names : List (Option Meanings)) (between : List Inserted) (behind : List Listing) → any_match x.cuts ≡ true
+    → map names_in names ≡ map bound_to x.matches → map (cut_list max) between ≡ map (named max s r.cuts names) x.cuts → behind ≡ r.behind
+    → record { left = x.left; cuts = map (cut_list max) between; behind = behind; has_matched = true } ≡ and_taken max s r (Some x)
+put_at_cuts max s r x names between behind any same is kept =
+    ap (λ ls. record { left = x.left; cuts = map (cut_list max) between; behind = ls; has_matched = true }) (kept ∙ sym (append-nil r.behind))
+    ∙ ap (λ cuts. after max s r x cuts true) (is ∙ each_cut max s r x names x.cuts same)
+    ∙ ap (after max s r x (map (by_match max s r x) x.cuts)) (sym any)
+
+-- or behind all
+pub put_behind_all : (max : ℕ) (s : Sum) (r : Rest) (x : Taken) (between : List Inserted) (behind : List Listing) → any_match x.cuts ≡ false
+    → map (cut_list max) between ≡ map (named max s r.cuts []) x.cuts → behind ≡ r.behind ++ flat_map (λ bs. replicate x.times (right_with max s bs)) x.matches
+    → record { left = x.left; cuts = map (cut_list max) between; behind = behind; has_matched = true } ≡ and_taken max s r (Some x)
+put_behind_all max s r x between behind none is put =
+    ap (λ ls. record { left = x.left; cuts = map (cut_list max) between; behind = ls; has_matched = true }) put
+    ∙ ap (λ cuts. after max s r x cuts false) (is ∙ no_match max s r x x.cuts none)
+    ∙ ap (after max s r x (map (by_match max s r x) x.cuts)) (sym none)
+
+-- ---- the parts of a word
+
+from_some : {X : Type 0} (x y : X) → Some x ≡ Some y → x ≡ y
+from_some x y e = ap (λ o. unwrap_or o x) e
+
+factor_of : (w : List Call) (t : Term) → Some t ≡ of_word w → word_factor w ≡ single (once t) ∷ []
+factor_of [] t e = cc
+factor_of (c ∷ cs) t e = ap (λ u. single (once u) ∷ []) (sym (from_some t (of_others (record nothing { word = c ∷ cs })) e))
+
+no_factor : (w : List Call) → None ≡ of_word w → word_factor w ≡ []
+no_factor [] e = refl
+no_factor (c ∷ cs) e = cc
+
+-- a part of the word more, or none
+pub with_part : (max : ℕ) (w : List Call) (t : Term) (lists now : List Part) → Some t ≡ of_word w → now ≡ lists ++ parts.Word t ∷ []
+    → map (part_list max) now ≡ map (part_list max) lists ++ word_factor w
+with_part max w t lists now there is =
+    ap (map (part_list max)) is
+    ∙ map-append (part_list max) lists (parts.Word t ∷ [])
+    ∙ ap (λ ls. map (part_list max) lists ++ ls) (sym (factor_of w t there))
+
+pub with_no_part : (max : ℕ) (w : List Call) (lists : List Part) → None ≡ of_word w → map (part_list max) lists ≡ map (part_list max) lists ++ word_factor w
+with_no_part max w lists none = sym (append-nil (map (part_list max) lists)) ∙ ap (λ ls. map (part_list max) lists ++ ls) (sym (no_factor w none))
+
+-- up to a cut, and what is put in there
+pub up_to_cut : (max : ℕ) (w : List Call) (start n : ℕ) (lists made now : List Part) (one : Inserted) (items rest : List Inserted) (all : List Listing)
+    → n ≡ one.place - start → map (part_list max) made ≡ map (part_list max) lists ++ word_factor (take n (drop start w)) → now ≡ made ++ one.list ∷ [] → items ≡ one ∷ rest
+    → map (part_list max) lists ++ from_cuts w start (map (cut_list max) items) ≡ all → map (part_list max) now ++ from_cuts w one.place (map (cut_list max) rest) ≡ all
+up_to_cut max w start n lists made now one items rest all count word is next so_far =
+    let f = part_list max in
+    let here = word_factor (take (one.place - start) (drop start w)) in
+    let later = from_cuts w one.place (map (cut_list max) rest) in
+    ap (λ ps. map f ps ++ later) is
+    ∙ ap (λ ls. ls ++ later) (map-append f made (one.list ∷ []))
+    ∙ append_assoc (map f made) (f one.list ∷ []) later
+    ∙ ap (λ ls. ls ++ f one.list ∷ later) (word ∙ ap (λ m. map f lists ++ word_factor (take m (drop start w))) count)
+    ∙ append_assoc (map f lists) here (f one.list ∷ later)
+    ∙ ap (λ is. map f lists ++ from_cuts w start (map (cut_list max) is)) (sym next)
+    ∙ so_far
+
+-- the last part of the word
+pub up_to_end : (max : ℕ) (w : List Call) (start n : ℕ) (lists made : List Part) (items : List Inserted) (all : List Listing) → n ≡ length w → items ≡ []
+    → map (part_list max) lists ++ from_cuts w start (map (cut_list max) items) ≡ all
+    → map (part_list max) made ≡ map (part_list max) lists ++ word_factor (take n (drop start w)) → map (part_list max) made ≡ all
+up_to_end max w start n lists made items all count none so_far word =
+    word
+    ∙ ap (λ v. map (part_list max) lists ++ word_factor v) (take_all n (drop start w) (omega (arith, count, length-drop start w)))
+    ∙ ap (λ is. map (part_list max) lists ++ from_cuts w start (map (cut_list max) is)) (sym none)
+    ∙ so_far
+
+-- ---- the row
+
+pub row_uncut : (max : ℕ) (m : Monomial) (bs : List Inserted) (behind : List Listing) (l : Listing) → None ≡ first_cut bs → l ≡ row max (single m ∷ behind)
+    → l ≡ list_of_rest max m (record { left = m.term; cuts = map (cut_list max) bs; behind = behind; has_matched = true })
+row_uncut max m [] behind l none is = is
+row_uncut max m (b ∷ bs) behind l none is = cc
+
+at_first : (w : List Call) (c : ℕ × Listing) (cs : List (ℕ × Listing)) → from_cuts w c.0 (c ∷ cs) ≡ c.1 ∷ from_cuts w c.0 cs
+at_first w c cs =
+    let nothing_between : c.0 - c.0 ≡ 0 = omega arith in
+    ap (λ n. word_factor (take n (drop c.0 w)) ++ c.1 ∷ from_cuts w c.0 cs) nothing_between
+
+pub row_cut : (max : ℕ) (m first : Monomial) (bs : List Inserted) (start : ℕ) (lists behind all : List Part) (l : Listing) → Some start ≡ first_cut bs
+    → first ≡ record { coefficient = m.coefficient; term = front start m.term } → map (part_list max) lists ≡ from_cuts m.term.others.word start (map (cut_list max) bs)
+    → all ≡ lists ++ behind → l ≡ row max (single first ∷ map (part_list max) all)
+    → l ≡ list_of_rest max m (record { left = m.term; cuts = map (cut_list max) bs; behind = map (part_list max) behind; has_matched = true })
+row_cut max m first [] start lists behind all l there is words put made = cc
+row_cut max m first (b ∷ bs) start lists behind all l there is words put made =
+    let w = m.term.others.word in
+    let rest = map (part_list max) behind in
+    let same : start ≡ b.place = from_some start b.place there in
+    let fronts : first ≡ record { coefficient = m.coefficient; term = front b.place m.term } = is ∙ ap (λ n. record { coefficient = m.coefficient; term = front n m.term }) same in
+    let between : map (part_list max) lists ≡ behind_first w (map (cut_list max) (b ∷ bs)) =
+    words ∙ ap (λ n. from_cuts w n (map (cut_list max) (b ∷ bs))) same ∙ at_first w (cut_list max b) (map (cut_list max) bs) in
+    made
+    ∙ ap (λ ps. row max (single first ∷ map (part_list max) ps)) put
+    ∙ ap (λ ls. row max (single first ∷ ls)) (map-append (part_list max) lists behind)
+    ∙ ap (λ ls. row max (single first ∷ ls ++ rest)) between
+    ∙ ap (λ n. row max (single n ∷ behind_first w (map (cut_list max) (b ∷ bs)) ++ rest)) fronts

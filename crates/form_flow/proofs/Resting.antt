@@ -1,0 +1,103 @@
+-- What is left of a term while parts take from it.
+use Rattle.std.proofs.Common.{◌≡◌, true≢false, ℕ, ◌+◌, ◌<◌, ◌≤◌, drop, get_or, length, option_map, arith, Bool, true, false, cond, List, [], ◌∷◌, ◌++◌, Option, Some, None, fold, map, refl, sym, ap, subst, ◌∙◌}
+use Rattle.std.specs.Prelude.{slice_get}
+use Rattle.std.proofs.lemmas.List.{length-map}
+use Rattle.std.proofs.lemmas.Option.{slice_get-map, slice_get_read}
+use Rattle.form_tree.specs.Pattern.{Factors, pieces_of_factors}
+use Rattle.form_tree.specs.Tree.{Sum}
+use Rattle.form_term.specs.Term.{Term}
+use Rattle.form_term.specs.declared.monomial.Monomial.{Monomial}
+use Rattle.form_rewrite.specs.declared.taken.Taken.{Taken}
+use Rattle.form_rewrite.specs.Taking.{take_out}
+use Rattle.form_expand.specs.Listing.{Listing}
+use Rattle.form_expand.specs.Parts.{part_list}
+use Rattle.form_flow.specs.Applied.{IsApplied}
+use Rattle.form_flow.specs.Parts.{ArePartsOf, IsPart}
+use Rattle.form_flow.specs.Ready.{IsReady, rewriting_of}
+use Rattle.form_flow.specs.Rests.{cut_list, rest_in}
+use Rattle.form_flow.specs.Rewriting.{Part, Rest, and_part, and_taken, list_of_rest, rest_of, rewritten, table_of, untouched}
+use Rattle.form_flow.proofs.Zips.{zip_end, zip_next}
+use Rattle.form_flow.specs.declared.compiled.CompiledPart.{CompiledPart}
+use Rattle.form_flow.specs.declared.rest.Remaining.{Remaining}
+use Rattle.form_flow.specs.declared.rest.Applied.TheVariants.{Unchanged, Put}
+
+-- what a part takes, by its trees
+pub part_takes : (max : ℕ) (r : Rest) (part : CompiledPart) (p : Part) (cuts : List ℕ) (x : Option Taken) → cuts ≡ map (λ c. c.0) r.cuts → IsReady max part → IsPart (rewriting_of part) p
+    → ((fs : Factors) → part.pattern.pieces ≡ pieces_of_factors fs → x ≡ take_out part.pattern.fixed fs part.rewriting.now.option r.left cuts)
+    → and_taken max p.right r x ≡ and_part max r p
+part_takes max r part p cuts x cut ready is taken =
+    ap (and_taken max p.right r)
+    (taken p.pattern (ready.pieces ∙ is.pattern)
+    ∙ ap (λ table. take_out table p.pattern part.rewriting.now.option r.left cuts) (ready.table p.fixed is.fixed)
+    ∙ ap (λ option. take_out (table_of max p.fixed) p.pattern option r.left cuts) (sym is.option)
+    ∙ ap (take_out (table_of max p.fixed) p.pattern p.option r.left) cut)
+
+-- once a part has matched, that stays
+stays_matched : (max : ℕ) (r : Rest) (ps : List Part) → r.has_matched ≡ true → (fold (and_part max) r ps).has_matched ≡ true
+stays_matched max r [] h = h
+stays_matched max r (p ∷ ps) h =
+    stays_matched max (and_part max r p) ps (one (take_out (table_of max p.fixed) p.pattern p.option r.left (map (λ c. c.0) r.cuts)))
+  where
+    one : (x : Option Taken) → (and_taken max p.right r x).has_matched ≡ true
+    one None = h
+    one (Some x) = refl
+
+-- where none has matched nothing has changed
+pub unmatched : (max : ℕ) (r : Rest) (ps : List Part) → (fold (and_part max) r ps).has_matched ≡ false → fold (and_part max) r ps ≡ r
+unmatched max r [] h = refl
+unmatched max r (p ∷ ps) h =
+    by (take_out (table_of max p.fixed) p.pattern p.option r.left (map (λ c. c.0) r.cuts)) refl (λ s e. unmatched max s ps e)
+  where
+    by : (x : Option Taken) → take_out (table_of max p.fixed) p.pattern p.option r.left (map (λ c. c.0) r.cuts) ≡ x
+        → ((s : Rest) → (fold (and_part max) s ps).has_matched ≡ false → fold (and_part max) s ps ≡ s) → fold (and_part max) (and_part max r p) ps ≡ r
+    by None e later =
+        let same : and_part max r p ≡ r = ap (and_taken max p.right r) e in
+        ap (λ s. fold (and_part max) s ps) same ∙ later r (ap (λ s. (fold (and_part max) s ps).has_matched) (sym same) ∙ h)
+    by (Some x) e later =
+        let matched : (and_part max r p).has_matched ≡ true = ap (λ y. (and_taken max p.right r y).has_matched) e in
+        let stays = stays_matched max (and_part max r p) ps matched in
+        absurd (true≢false (sym stays ∙ h))
+
+-- a term as it was
+pub stays_same : (max : ℕ) (ps : List Part) (m : Monomial) (r : Remaining) → rest_in r ≡ rest_of max ps m.term → r.has_matched ≡ false
+    → IsApplied m (rewritten max ps m) (Unchanged (record { coefficient = m.coefficient; term = r.left }))
+unfolding rewritten
+stays_same max ps m r is none =
+    let test : (rest_of max ps m.term).has_matched ≡ false = ap (λ x. x.has_matched) (sym is) ∙ none in
+    let same : r.left ≡ m.term = ap (λ x. x.left) (is ∙ unmatched max (untouched m.term) ps test) in
+    subst (λ (b : Bool). IsApplied m (cond b (Some (list_of_rest max m (rest_of max ps m.term))) None) (Unchanged (record { coefficient = m.coefficient; term = r.left })))
+    (sym test) (ap (λ t. record { coefficient = m.coefficient; term = t }) same)
+
+-- the row of what is left and what is put in
+pub is_put : (max : ℕ) (ps : List Part) (m : Monomial) (r : Remaining) (l : Listing) → r.limit ≡ max → rest_in r ≡ rest_of max ps m.term → r.has_matched ≡ true
+    → l ≡ list_of_rest max (record { coefficient = m.coefficient; term = r.left })
+    (record { left = r.left; cuts = map (cut_list max) r.between.items; behind = map (part_list max) r.behind.items; has_matched = true })
+    → IsApplied m (rewritten max ps m) (Put l)
+unfolding rewritten
+is_put max ps m r l within is matched made =
+    let test : (rest_of max ps m.term).has_matched ≡ true = ap (λ x. x.has_matched) (sym is) ∙ matched in
+    let same : record { left = r.left; cuts = map (cut_list max) r.between.items; behind = map (part_list max) r.behind.items; has_matched = true } ≡ rest_of max ps m.term =
+    ap (λ n. record { left = r.left; cuts = map (cut_list n) r.between.items; behind = map (part_list n) r.behind.items; has_matched = true }) (sym within)
+    ∙ ap (λ b. record { left = r.left; cuts = map (cut_list r.limit) r.between.items; behind = map (part_list r.limit) r.behind.items; has_matched = b }) (sym matched)
+    ∙ is in
+    subst (λ (b : Bool). IsApplied m (cond b (Some (list_of_rest max m (rest_of max ps m.term))) None) (Put l))
+    (sym test) (made ∙ ap (list_of_rest max m) same)
+
+-- one part more
+pub next_part : (max : ℕ) (parts : List CompiledPart) (ps : List Part) (i : ℕ) (part : CompiledPart) (r next all : Rest)
+    → ArePartsOf (map rewriting_of parts) ps → i < length parts → part ≡ get_or parts i part
+    → ((p : Part) → IsPart (rewriting_of part) p → next ≡ and_part max r p)
+    → fold (and_part max) r (drop i ps) ≡ all → fold (and_part max) next (drop (i + 1) ps) ≡ all
+next_part max parts ps i part r next all are within is step so_far =
+    let here : slice_get (map rewriting_of parts) i ≡ Some (rewriting_of part) =
+    slice_get-map rewriting_of parts i ∙ ap (option_map rewriting_of) (slice_get_read parts (length parts) i part refl within is) in
+    let p = zip_next IsPart (map rewriting_of parts) ps i (rewriting_of part) are here in
+    ap (λ s. fold (and_part max) s (drop (i + 1) ps)) (step p.0 p.2)
+    ∙ ap (fold (and_part max) r) (sym p.1)
+    ∙ so_far
+
+-- all parts
+pub last_part : (max : ℕ) (parts : List CompiledPart) (ps : List Part) (i : ℕ) (r all : Rest)
+    → ArePartsOf (map rewriting_of parts) ps → length parts ≤ i → fold (and_part max) r (drop i ps) ≡ all → r ≡ all
+last_part max parts ps i r all are past so_far =
+    sym (ap (fold (and_part max) r) (zip_end IsPart (map rewriting_of parts) ps i are (omega (arith, length-map parts rewriting_of)))) ∙ so_far

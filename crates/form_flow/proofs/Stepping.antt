@@ -1,0 +1,206 @@
+-- Outputs step by step, by the laws of lists.
+use Rattle.std.proofs.Common.{◌≡◌, ℕ, suc, ◌+◌, ◌-◌, ◌<◌, ◌≤◌, List, [], ◌∷◌, ◌++◌, Option, Some, None, Result, Ok, Err, Vec, Global, drop, fold, length, refl, sym, ap, subst, ◌∙◌, arith}
+use Rattle.std.proofs.lemmas.List.Sums.{fold_push}
+use Rattle.form_base.specs.declared.cause.Cause.{Cause}
+use Rattle.form_base.specs.declared.cause.Cause.TheVariants.{ExpandLimit}
+use Rattle.form_term.specs.declared.monomial.Monomial.{Monomial}
+use Rattle.form_expand.specs.declared.error.ExpandError.{ExpandError}
+use Rattle.form_expand.specs.declared.error.ExpandError.TheVariants.{Refused, Memory}
+use Rattle.form_expand.specs.Listing.{Listing, nothing, single, refusal, before, followed, limited}
+use Rattle.form_expand.specs.Next.{Gives}
+use Rattle.form_flow.specs.Applied.{IsApplied}
+use Rattle.form_flow.specs.declared.rest.Applied.TheVariants.{Unchanged, Put}
+use Rattle.form_flow.specs.Left.{Steps, and_outer, left_in, left_of_frame, left_of_frames, left_waiting, on_its_way}
+use Rattle.form_flow.specs.Rewriting.{Part, carried, going_on, outputs, rewritten, through, through_each}
+use Rattle.form_flow.specs.declared.outputs.Frame.{Frame}
+use Rattle.form_flow.specs.declared.outputs.State.{State}
+use Rattle.form_flow.specs.declared.outputs.Waiting.{Waiting}
+
+-- the laws of lists that follow one another, and of those that are limited
+pub record Laws : Type 0 where
+  pub associative : (a b c : Listing) → followed (followed a b) c ≡ followed a (followed b c)
+  pub first : (l : Listing) → followed nothing l ≡ l
+  pub begun : (m : Monomial) (a b : Listing) → followed (before m a) b ≡ before m (followed a b)
+  pub refused : (cause : Cause) (l : Listing) → followed (refusal cause) l ≡ refusal cause
+
+pub record Limits : Type 0 where
+  pub begun : (n : ℕ) (m : Monomial) (l : Listing) → limited (suc n) (before m l) ≡ before m (limited n l)
+  pub beyond : (m : Monomial) (l : Listing) → limited 0 (before m l) ≡ refusal ExpandLimit
+  pub none : (n : ℕ) → limited n nothing ≡ nothing
+  pub refused : (n : ℕ) (cause : Cause) → limited n (refusal cause) ≡ refusal cause
+
+-- ---- frames
+
+pub one_frame : (max : ℕ) (pss : List (List Part)) (fs now : List Frame) (f : Frame) → now ≡ fs ++ f ∷ []
+    → left_of_frames max pss now ≡ followed (left_of_frame max pss f) (left_of_frames max pss fs)
+unfolding left_of_frames
+one_frame max pss fs now f is = ap (fold (and_outer max pss) nothing) is ∙ fold_push (and_outer max pss) nothing fs f
+
+pub no_frame : (max : ℕ) (pss : List (List Part)) (fs : List Frame) → fs ≡ [] → left_of_frames max pss fs ≡ nothing
+unfolding left_of_frames
+no_frame max pss fs is = ap (fold (and_outer max pss) nothing) is
+
+through_before : (go : Monomial → Listing) (m : Monomial) (l : Listing) → through go (before m l) ≡ followed (go m) (through go l)
+unfolding through_each
+through_before go m l = refl
+
+through_nothing : (go : Monomial → Listing) → through go nothing ≡ nothing
+unfolding through_each
+through_nothing go = refl
+
+through_refusal : (go : Monomial → Listing) (cause : Cause) → through go (refusal cause) ≡ refusal cause
+unfolding through_each
+through_refusal go cause = refl
+
+module _ (laws : Laws) (limits : Limits) (go : Monomial → Listing) (k : ℕ) (rest : Listing) where
+  -- the next term of a row goes on, and what is left of the row behind it
+  pub row_gives : (m : Monomial) (l next : Listing) → l ≡ before m next
+      → limited k (followed (go m) (followed (through go next) rest)) ≡ limited k (followed (through go l) rest)
+  row_gives m l next is =
+      ap (limited k)
+      (sym (laws.associative (go m) (through go next) rest)
+      ∙ sym (ap (λ x. followed x rest) (ap (through go) is ∙ through_before go m next)))
+
+  pub row_ends : (l : Listing) → l ≡ nothing → limited k rest ≡ limited k (followed (through go l) rest)
+  row_ends l is = ap (limited k) (sym (ap (λ x. followed x rest) (ap (through go) is ∙ through_nothing go) ∙ laws.first rest))
+
+  pub row_refused : (l : Listing) (cause : Cause) → l ≡ refusal cause → limited k (followed (through go l) rest) ≡ refusal cause
+  row_refused l cause is =
+      ap (limited k) (ap (λ x. followed x rest) (ap (through go) is ∙ through_refusal go cause) ∙ laws.refused cause rest)
+      ∙ limits.refused k cause
+
+-- a row that answers an error
+pub row_fails : (laws : Laws) (limits : Limits) (go : Monomial → Listing) (k : ℕ) (rest : Listing) (l next new : Listing) (error : ExpandError)
+    → Gives (Err error) l next → Steps (Err error) (limited k (followed (through go l) rest)) new
+row_fails laws limits go k rest l next new (Refused cause) is = row_refused laws limits go k rest l cause is
+row_fails laws limits go k rest l next new Memory is = tt
+
+-- ---- a term on its way
+
+pub no_statement : (laws : Laws) (max : ℕ) (m : Monomial) (pss : List (List Part)) (rest : Listing) → pss ≡ []
+    → followed (carried max pss m) rest ≡ before m rest
+unfolding carried
+no_statement laws max m pss rest is =
+    ap (λ qss. followed (carried max qss m) rest) is ∙ laws.begun m nothing rest ∙ ap (before m) (laws.first rest)
+
+pub not_acted : (max : ℕ) (m : Monomial) (pss later : List (List Part)) (ps : List Part) → pss ≡ ps ∷ later → rewritten max ps m ≡ None
+    → carried max pss m ≡ carried max later m
+unfolding carried
+not_acted max m pss later ps is none = ap (λ qss. carried max qss m) is ∙ ap (going_on (carried max later) m) none
+
+pub acted : (max : ℕ) (m : Monomial) (pss later : List (List Part)) (ps : List Part) (l : Listing) → pss ≡ ps ∷ later → rewritten max ps m ≡ Some l
+    → carried max pss m ≡ through (carried max later) l
+unfolding carried
+acted max m pss later ps l is some = ap (λ qss. carried max qss m) is ∙ ap (going_on (carried max later) m) some
+
+-- one output more, or one too many
+pub gives_one : (limits : Limits) (max given : ℕ) (m : Monomial) (l : Listing) → given < max
+    → limited (max - given) (before m l) ≡ before m (limited (max - (given + 1)) l)
+gives_one limits max given m l within =
+    let one_less : max - given ≡ suc (max - (given + 1)) = omega arith in
+    ap (λ n. limited n (before m l)) one_less ∙ limits.begun (max - (given + 1)) m l
+
+pub one_too_many : (limits : Limits) (max given : ℕ) (m : Monomial) (l : Listing) → max ≤ given → limited (max - given) (before m l) ≡ refusal ExpandLimit
+one_too_many limits max given m l past =
+    let none : max - given ≡ 0 = omega arith in
+    ap (λ n. limited n (before m l)) none ∙ limits.beyond m l
+
+-- ---- states
+
+left_none : (max : ℕ) (s : State) (pss : List (List Part)) → s.waiting ≡ None → left_in max s pss ≡ limited (max - s.given) (left_of_frames max pss s.frames.items)
+unfolding left_in
+left_none max s pss none = ap (λ (o : Option Waiting). limited (max - s.given) (left_waiting max pss o (left_of_frames max pss s.frames.items))) none
+
+pub waits : (max : ℕ) (s : State) (w : Waiting) (pss : List (List Part)) → s.waiting ≡ Some w
+    → left_in max (on_its_way w (record { given = s.given; waiting = None; frames = s.frames })) pss ≡ left_in max s pss
+unfolding left_in
+waits max s w pss some = ap (λ (o : Option Waiting). limited (max - s.given) (left_waiting max pss o (left_of_frames max pss s.frames.items))) (sym some)
+
+pub given_one : (limits : Limits) (max : ℕ) (s : State) (m : Monomial) (pss : List (List Part)) → s.waiting ≡ None → s.given < max
+    → limited (max - s.given) (before m (left_of_frames max pss s.frames.items)) ≡ before m (left_in max (record { given = s.given + 1; waiting = s.waiting; frames = s.frames }) pss)
+given_one limits max s m pss none within =
+    gives_one limits max s.given m (left_of_frames max pss s.frames.items) within
+    ∙ ap (before m) (sym (left_none max (record { given = s.given + 1; waiting = s.waiting; frames = s.frames }) pss none))
+
+pub no_more : (limits : Limits) (max : ℕ) (s : State) (now : Vec Frame Global) (pss : List (List Part)) → s.waiting ≡ None → s.frames.items ≡ [] → now.items ≡ []
+    → (left_in max s pss ≡ nothing) × (left_in max (record { given = s.given; waiting = s.waiting; frames = now }) pss ≡ nothing)
+no_more limits max s now pss none empty still = (
+  left_none max s pss none ∙ ap (limited (max - s.given)) (no_frame max pss s.frames.items empty) ∙ limits.none (max - s.given),
+  left_none max (record { given = s.given; waiting = s.waiting; frames = now }) pss none ∙ ap (limited (max - s.given)) (no_frame max pss now.items still) ∙ limits.none (max - s.given),
+)
+
+module _ (laws : Laws) (limits : Limits) (max : ℕ) (s : State) (pss : List (List Part)) (none : s.waiting ≡ None) (fs : List Frame) (f : Frame) (last : s.frames.items ≡ fs ++ f ∷ []) where
+  open_frame : left_in max s pss ≡ limited (max - s.given) (followed (left_of_frame max pss f) (left_of_frames max pss fs))
+  open_frame = left_none max s pss none ∙ ap (limited (max - s.given)) (one_frame max pss fs s.frames.items f last)
+
+  pub row_on : (m : Monomial) (next : Listing) (pushed : Vec Frame Global) → f.row ≡ before m next → pushed.items ≡ fs ++ (record { row = next; behind = f.behind }) ∷ []
+      → left_in max (record { given = s.given; waiting = Some (record { item = m; behind = f.behind }); frames = pushed }) pss ≡ left_in max s pss
+  unfolding left_in
+  row_on m next pushed is put =
+      ap (λ x. limited (max - s.given) (followed (carried max (drop f.behind pss) m) x)) (one_frame max pss fs pushed.items (record { row = next; behind = f.behind }) put)
+      ∙ row_gives laws limits (carried max (drop f.behind pss)) (max - s.given) (left_of_frames max pss fs) m f.row next is
+      ∙ sym open_frame
+
+  pub row_off : (popped : Vec Frame Global) → f.row ≡ nothing → popped.items ≡ fs
+      → left_in max (record { given = s.given; waiting = s.waiting; frames = popped }) pss ≡ left_in max s pss
+  row_off popped is rest =
+      left_none max (record { given = s.given; waiting = s.waiting; frames = popped }) pss none
+      ∙ ap (λ gs. limited (max - s.given) (left_of_frames max pss gs)) rest
+      ∙ row_ends laws limits (carried max (drop f.behind pss)) (max - s.given) (left_of_frames max pss fs) f.row is
+      ∙ sym open_frame
+
+  pub row_err : (next new : Listing) (error : ExpandError) → Gives (Err error) f.row next → Steps (Err error) (left_in max s pss) new
+  row_err next new error is =
+      subst (λ (l : Listing). Steps (Err error) l new) (sym open_frame)
+      (row_fails laws limits (carried max (drop f.behind pss)) (max - s.given) (left_of_frames max pss fs) f.row next new error is)
+
+-- ---- a term goes through the next statement
+
+pub goes_out : (laws : Laws) (max : ℕ) (s : State) (w : Waiting) (pss : List (List Part)) → drop w.behind pss ≡ []
+    → left_in max (on_its_way w s) pss ≡ limited (max - s.given) (before w.item (left_of_frames max pss s.frames.items))
+unfolding left_in
+goes_out laws max s w pss past = ap (limited (max - s.given)) (no_statement laws max w.item (drop w.behind pss) (left_of_frames max pss s.frames.items) past)
+
+pub goes_past : (max : ℕ) (s : State) (w : Waiting) (pss : List (List Part)) (ps : List Part) → drop w.behind pss ≡ ps ∷ drop (w.behind + 1) pss → rewritten max ps w.item ≡ None
+    → left_in max (on_its_way (record { item = w.item; behind = w.behind + 1 }) s) pss ≡ left_in max (on_its_way w s) pss
+unfolding left_in
+goes_past max s w pss ps here none =
+    ap (λ x. limited (max - s.given) (followed x (left_of_frames max pss s.frames.items))) (sym (not_acted max w.item (drop w.behind pss) (drop (w.behind + 1) pss) ps here none))
+
+pub goes_into : (max : ℕ) (s : State) (w : Waiting) (pss : List (List Part)) (ps : List Part) (l : Listing) (pushed : Vec Frame Global)
+    → s.waiting ≡ None → drop w.behind pss ≡ ps ∷ drop (w.behind + 1) pss → rewritten max ps w.item ≡ Some l → pushed.items ≡ s.frames.items ++ (record { row = l; behind = w.behind + 1 }) ∷ []
+    → left_in max (record { given = s.given; waiting = s.waiting; frames = pushed }) pss ≡ left_in max (on_its_way w s) pss
+unfolding left_in
+goes_into max s w pss ps l pushed none here some put =
+    left_none max (record { given = s.given; waiting = s.waiting; frames = pushed }) pss none
+    ∙ ap (limited (max - s.given)) (one_frame max pss s.frames.items pushed.items (record { row = l; behind = w.behind + 1 }) put)
+    ∙ ap (λ x. limited (max - s.given) (followed x (left_of_frames max pss s.frames.items))) (sym (acted max w.item (drop w.behind pss) (drop (w.behind + 1) pss) ps l here some))
+
+pub unchanged_none : (m same : Monomial) (o : Option Listing) → IsApplied m o (Unchanged same) → (o ≡ None) × (same ≡ m)
+unchanged_none m same None h = (refl, h)
+unchanged_none m same (Some l) h = absurd h
+
+pub put_some : (m : Monomial) (l : Listing) (o : Option Listing) → IsApplied m o (Put l) → o ≡ Some l
+put_some m l None h = absurd h
+put_some m l (Some k) h = ap Some (sym h)
+
+pub still_none : (max : ℕ) (s : State) (w : Option Waiting) (pss : List (List Part)) → s.waiting ≡ None → w ≡ None
+    → left_in max (record { given = s.given; waiting = w; frames = s.frames }) pss ≡ left_in max s pss
+still_none max s w pss none same = ap (λ (o : Option Waiting). left_in max (record { given = s.given; waiting = o; frames = s.frames }) pss) (same ∙ sym none)
+
+pub fails_alike : (error : ExpandError) (a b new : Listing) → a ≡ b → Steps (Err error) a new → Gives (Err error) b new
+fails_alike (Refused cause) a b new same is = sym same ∙ is
+fails_alike Memory a b new same is = tt
+
+-- ---- the beginning
+
+pub starts : (last : (l : Listing) → followed l nothing ≡ l) (max : ℕ) (s : State) (pss : List (List Part)) (m : Monomial)
+    → s.given ≡ 0 → s.waiting ≡ Some (record { item = m; behind = 0 }) → s.frames.items ≡ [] → left_in max s pss ≡ outputs max pss m
+unfolding left_in outputs
+starts last max s pss m zero waits empty =
+    let all : max - 0 ≡ max = omega arith in
+    ap (λ n. limited (max - n) (left_waiting max pss s.waiting (left_of_frames max pss s.frames.items))) zero
+    ∙ ap (λ w. limited (max - 0) (left_waiting max pss w (left_of_frames max pss s.frames.items))) waits
+    ∙ ap (λ r. limited (max - 0) (followed (carried max (drop 0 pss) m) r)) (no_frame max pss s.frames.items empty)
+    ∙ ap (limited (max - 0)) (last (carried max (drop 0 pss) m))
+    ∙ ap (λ n. limited n (carried max pss m)) all

@@ -1,0 +1,9 @@
+pub mod Answers
+pub mod Applied
+pub mod Groups
+pub mod Left
+pub mod Parts
+pub mod Ready
+pub mod Rests
+pub mod Rewriting
+pub mod Words

@@ -1,0 +1,81 @@
+//! Terms carried out to whatever takes what they become.
+ghost use Rattle.std.specs.Prelude.{◌≡◌, ◌++◌, ◌∷◌, [], List, OnErr, OnOk};
+ghost use Rattle.form_term.specs.declared.monomial.Monomial.{Monomial as Output};
+ghost use Rattle.form_flow.specs.Answers.{Carries};
+ghost use Rattle.form_flow.specs.Left.{groups_in, outputs_left};
+ghost use Rattle.form_flow.specs.Parts.{AreParts};
+ghost use Rattle.form_flow.specs.Rewriting.{Part as AsTrees, outputs as outputs_of};
+
+use crate::compiled::CompiledModule;
+use crate::outputs::Outputs;
+use form_base::Cause;
+use form_expand::ExpandError;
+use form_frac::Frac;
+use form_term::{Monomial, Term};
+use std::alloc::{AllocError, Global};
+
+/// What one who takes outputs answers.
+#[derive(Clone, Copy, Debug, PartialEq, Eq)]
+pub enum Go {
+    Continues,
+    /// It wants no more.
+    Stops,
+}
+
+/// Takes outputs, one by one.
+pub trait Emit {
+    /// Those that it took, in order.
+    ghost emitted: { Self → List Output };
+
+    fn emit(&mut self, alloc: Global, item: Monomial) -> Result<Go, AllocError>
+        ensures taken { OnOk result (emitted self.new ≡ emitted self.old ++ item ∷ []) }
+        ensures unchanged { OnErr result (emitted self.new ≡ emitted self.old) };
+}
+
+/// How carrying a term out ended.
+#[derive(Debug, Drop)]
+pub enum End {
+    Done,
+    Refused(Cause),
+    Stopped,
+    Memory,
+}
+
+impl<'a> CompiledModule<'a> {
+    /// Gives what a term becomes to `out`, one by one.
+    pub fn carry<E: Emit>(&'a self, alloc: Global, value: Frac, term: &Term, out: &mut E) -> End
+        ensures { (pss : List (List AsTrees)) → AreParts self.now.groups pss →
+            Carries (E.emitted out.old) (outputs_of self.now.limit pss (record { coefficient = value; term = term.now })) (E.emitted out.new) result }
+    {
+        let Ok(term) = term.clone() else {
+            return End::Memory;
+        };
+        let item = Monomial {
+            coefficient: value,
+            term,
+        };
+        emit_all(alloc, self.outputs(alloc, item), out)
+    }
+}
+
+/// Gives all outputs that are left.
+fn emit_all<E: Emit>(alloc: Global, outputs: Outputs, out: &mut E) -> End
+    ensures { (pss : List (List AsTrees)) → AreParts (groups_in outputs.entry) pss →
+        Carries (E.emitted out.old) (outputs_left outputs.entry pss) (E.emitted out.new) result }
+{
+    let mut outputs = outputs;
+    for _made in 0..u64::MAX {
+        let item = match outputs.next(alloc) {
+            Ok(Some(item)) => item,
+            Ok(None) => return End::Done,
+            Err(ExpandError::Refused(cause)) => return End::Refused(cause),
+            Err(ExpandError::Memory) => return End::Memory,
+        };
+        match out.emit(alloc, item) {
+            Ok(Go::Continues) => {}
+            Ok(Go::Stops) => return End::Stopped,
+            Err(AllocError) => return End::Memory,
+        }
+    }
+    End::Memory
+}

@@ -1,0 +1,262 @@
+//! What is left of a term while the parts of a statement take from it, and the row that comes of that.
+ghost use Rattle.std.specs.Prelude.{◌≡◌, ◌++◌, IfOk, List, Some, flat_map, map, replicate};
+ghost use Rattle.std.specs.List.{AllZip};
+ghost use Rattle.form_tree.specs.Tree.{Sum, pieces_of_sum};
+ghost use Rattle.form_expand.specs.Expanding.{list_of_sum};
+ghost use Rattle.form_expand.specs.Meanings.{bound_to, no_meanings};
+ghost use Rattle.form_expand.specs.Parts.{part_list};
+ghost use Rattle.form_flow.specs.Applied.{IsApplied};
+ghost use Rattle.form_flow.specs.Parts.{ArePartsOf, IsPart};
+ghost use Rattle.form_flow.specs.Ready.{AreReady, IsReady, rewriting_of, rewritings_of};
+ghost use Rattle.form_flow.specs.Rests.{names_in, rest_in};
+ghost use Rattle.form_flow.specs.Rewriting.{Part as AsTrees, and_part as and_part_of, and_taken as and_taken_of, rest_of, rewritten as rewritten_of, right_with, untouched};
+
+use crate::between::{Inserted, all_bound, is_any_by_match, places, put_between, row_of};
+use crate::compiled::{CompiledPart, Group};
+use form_expand::{Part, Row, Standing, laws, whole_list};
+use form_match::Bindings;
+use form_rewrite::{Taken, take_out};
+use form_term::{Monomial, Term};
+use form_tree::Piece;
+use std::alloc::{AllocError, Global};
+
+/// What is left of a term, what is put in between the parts of its word and behind it, and whether a part matched.
+#[derive(Drop)]
+pub struct Remaining<'a> {
+    pub limit: u64,
+    pub left: Term,
+    pub between: Vec<Inserted<'a>>,
+    pub behind: Vec<Part<'a>>,
+    pub has_matched: bool,
+}
+
+/// What a statement makes of a term.
+#[derive(Drop)]
+pub enum Applied<'a> {
+    /// No part matched.
+    Unchanged(Monomial),
+    Put(Row<'a>),
+}
+
+/// What a statement makes of a term.
+#[tactic(auto, unfolding(crate::specs::Rewriting::rewritten))]
+pub fn rewritten<'a>(
+    alloc: Global,
+    limit: u64,
+    group: &'a Group<'a>,
+    nothing: &'a Standing,
+    item: Monomial,
+) -> Result<Applied<'a>, AllocError>
+    requires ready { AreReady limit group.now }
+    requires nothing { nothing.now ≡ no_meanings }
+    ensures { (ps : List AsTrees) → ArePartsOf (rewritings_of group.now) ps →
+        IfOk result (λ applied. IsApplied item (rewritten_of limit ps item) applied) }
+{
+    let Monomial { coefficient, term } = item;
+    let rest = rest(alloc, limit, group, nothing, term)?;
+    let Remaining {
+        limit: _,
+        left,
+        between,
+        behind,
+        has_matched,
+    } = rest;
+    let left = Monomial {
+        coefficient,
+        term: left,
+    };
+    if !has_matched {
+        return Ok(Applied::Unchanged(left));
+    }
+    let row = row_of(alloc, limit, left, between, behind)?;
+    Ok(Applied::Put(row))
+}
+
+/// What is left of a term once all parts took from it.
+fn rest<'a>(
+    alloc: Global,
+    limit: u64,
+    group: &'a Group<'a>,
+    nothing: &'a Standing,
+    term: Term,
+) -> Result<Remaining<'a>, AllocError>
+    requires ready { AreReady limit group.now }
+    requires nothing { nothing.now ≡ no_meanings }
+    ensures rest { (ps : List AsTrees) → ArePartsOf (rewritings_of group.now) ps →
+        IfOk result (λ rest. rest_in rest ≡ rest_of limit ps term) }
+    ensures limit { IfOk result (λ rest. rest.limit ≡ limit) }
+{
+    let mut rest = Remaining {
+        limit,
+        left: term,
+        between: Vec::new(alloc),
+        behind: Vec::new(alloc),
+        has_matched: false,
+    };
+    for part in &group.parts {
+        rest = and_part(alloc, part, nothing, rest)?;
+    }
+    Ok(rest)
+}
+
+/// What is left once a part took from it.
+fn and_part<'a>(
+    alloc: Global,
+    part: &'a CompiledPart<'a>,
+    nothing: &'a Standing,
+    rest: Remaining<'a>,
+) -> Result<Remaining<'a>, AllocError>
+    requires ready { IsReady rest.limit part.now }
+    requires nothing { nothing.now ≡ no_meanings }
+    ensures rest { (p : AsTrees) → IsPart (rewriting_of part.now) p →
+        IfOk result (λ after. rest_in after ≡ and_part_of rest.entry.limit (rest_in rest.entry) p) }
+    ensures limit { IfOk result (λ after. after.limit ≡ rest.entry.limit) }
+{
+    let option = part.rewriting.option;
+    let cuts = places(alloc, &rest.between)?;
+    let Some(taken) = take_out(alloc, &rest.left, &cuts, &part.pattern, option)? else {
+        return Ok(rest);
+    };
+    and_taken(alloc, part.rewriting.right.as_slice(), nothing, rest, taken)
+}
+
+/// What is left, with the right side behind it for each match.
+fn and_taken<'a>(
+    alloc: Global,
+    right: &'a [Piece],
+    nothing: &'a Standing,
+    rest: Remaining<'a>,
+    taken: Taken,
+) -> Result<Remaining<'a>, AllocError>
+    requires { nothing.now ≡ no_meanings }
+    ensures rest { (s : Sum) → right.now ≡ pieces_of_sum s →
+        IfOk result (λ after. rest_in after ≡ and_taken_of rest.entry.limit s (rest_in rest.entry) (Some taken)) }
+    ensures limit { IfOk result (λ after. after.limit ≡ rest.entry.limit) }
+{
+    let Remaining {
+        limit,
+        left: _,
+        between,
+        behind,
+        has_matched: _,
+    } = rest;
+    let Taken {
+        left,
+        cuts,
+        matches,
+        times,
+    } = taken;
+    let cuts = cuts.as_slice();
+    if is_any_by_match(cuts) {
+        let names = all_bound(alloc, matches.into_vec())?;
+        let between = put_between(alloc, limit, right, nothing, &names, cuts, between)?;
+        return Ok(Remaining {
+            limit,
+            left,
+            between,
+            behind,
+            has_matched: true,
+        });
+    }
+    let between = put_between(alloc, limit, right, nothing, &[], cuts, between)?;
+    let matches = matches.into_vec();
+    let behind = put_all(alloc, limit, right, nothing, matches, times, behind)?;
+    Ok(Remaining {
+        limit,
+        left,
+        between,
+        behind,
+        has_matched: true,
+    })
+}
+
+/// The right side with the bindings of each match, so many times each, behind other lists.
+fn put_all<'a>(
+    alloc: Global,
+    limit: u64,
+    right: &'a [Piece],
+    nothing: &'a Standing,
+    matches: Vec<Bindings>,
+    times: u32,
+    behind: Vec<Part<'a>>,
+) -> Result<Vec<Part<'a>>, AllocError>
+    requires { nothing.now ≡ no_meanings }
+    ensures { (s : Sum) → right.now ≡ pieces_of_sum s → IfOk result (λ lists. map (part_list limit) lists.items
+        ≡ map (part_list limit) behind.entry.items ++ flat_map (λ bs. replicate times (right_with limit s bs)) matches.items) }
+{
+    let mut behind = behind;
+    for bindings in matches {
+        behind = put_behind(alloc, limit, right, nothing, bindings, times, behind)?;
+    }
+    Ok(behind)
+}
+
+/// The right side with the bindings of a match, so many times, behind other lists.
+fn put_behind<'a>(
+    alloc: Global,
+    limit: u64,
+    right: &'a [Piece],
+    nothing: &'a Standing,
+    bindings: Bindings,
+    times: u32,
+    behind: Vec<Part<'a>>,
+) -> Result<Vec<Part<'a>>, AllocError>
+    requires { nothing.now ≡ no_meanings }
+    ensures { (s : Sum) → right.now ≡ pieces_of_sum s → IfOk result (λ lists.
+        map (part_list limit) lists.items ≡ map (part_list limit) behind.entry.items ++ replicate times (right_with limit s bindings)) }
+{
+    let names = bound(alloc, bindings);
+    put_times(alloc, limit, right, nothing, &names, times, behind)
+}
+
+fn put_times<'a>(
+    alloc: Global,
+    limit: u64,
+    right: &'a [Piece],
+    nothing: &'a Standing,
+    names: &Option<Standing>,
+    times: u32,
+    behind: Vec<Part<'a>>,
+) -> Result<Vec<Part<'a>>, AllocError>
+    requires { nothing.now ≡ no_meanings }
+    ensures { (s : Sum) → right.now ≡ pieces_of_sum s → IfOk result (λ lists. map (part_list limit) lists.items
+        ≡ map (part_list limit) behind.entry.items ++ replicate times (list_of_sum limit (names_in names.now) s)) }
+{
+    let mut behind = behind;
+    for _made in 0..times {
+        behind.push(right_side(alloc, limit, right, nothing, names)?)?;
+    }
+    Ok(behind)
+}
+
+/// What names stand for by the bindings of a match, where there are some.
+pub fn bound(alloc: Global, bindings: Bindings) -> Option<Standing>
+    ensures { names_in result ≡ bound_to bindings }
+{
+    if bindings.is_empty() {
+        return None;
+    }
+    Some(Standing::bound(alloc, bindings))
+}
+
+/// A right side as a list of a row: streamed where nothing is bound, and else written out whole.
+pub fn right_side<'a>(
+    alloc: Global,
+    limit: u64,
+    right: &'a [Piece],
+    nothing: &'a Standing,
+    names: &Option<Standing>,
+) -> Result<Part<'a>, AllocError>
+    requires { nothing.now ≡ no_meanings }
+    ensures { (s : Sum) → right.now ≡ pieces_of_sum s →
+        IfOk result (λ list. part_list limit list ≡ list_of_sum limit (names_in names.now) s) }
+{
+    laws::lists_of_trees();
+    match names {
+        None => Ok(Part::Tree(right, nothing)),
+        Some(names) => {
+            let whole = whole_list(alloc, right, limit, names)?;
+            Ok(Part::List(whole))
+        }
+    }
+}

@@ -1,0 +1,28 @@
+//! Patterns against terms: the first match of a pattern, what its wildcards stand for, and what is left of the term.
+#![tactic(auto)]
+
+mod asking;
+mod bindings;
+mod choices;
+mod frames;
+mod host;
+pub mod laws;
+mod left;
+mod matching;
+mod pattern;
+mod search;
+mod sets;
+mod symbols;
+mod taken;
+mod uses;
+mod values;
+mod whole;
+
+pub use bindings::{Bindings, Wildcard};
+pub use left::left_of;
+pub use matching::{Match, first_match, first_of};
+pub use pattern::Pattern;
+pub use uses::{Use, Uses};
+
+#[cfg(test)]
+mod tests;

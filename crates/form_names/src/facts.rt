@@ -1,0 +1,9 @@
+use crate::{Elements, Kind};
+
+/// What is known of a declared name.
+#[derive(Debug, Drop)]
+pub(crate) struct Facts {
+    pub(crate) kind: Kind,
+    /// Those of a set, none for another name.
+    pub(crate) elements: Option<Elements>,
+}
