@@ -1,3 +1,4 @@
 pub mod Cause
+pub mod Name
 pub mod Settings
 pub mod Status

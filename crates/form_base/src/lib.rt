@@ -19,6 +19,3 @@ pub use settings::Settings;
 pub use spot::Spot;
 pub use status::Status;
 pub use taking::Taking;
-
-#[cfg(test)]
-mod tests;

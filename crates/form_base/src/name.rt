@@ -1,42 +1,61 @@
-ghost use Rattle.std.specs.Prelude.{◌≡◌, IfOk, Some, string_bytes};
+ghost use Rattle.std.specs.Prelude.{◌≡◌, IfOk, Some};
 
+use arrayvec::ArrayString;
 use std::alloc::{AllocError, Global};
 use std::fmt;
 use std::marker::Model;
 
+/// A text as it is kept: most names are so short that they need no memory of their own.
+#[derive(Debug, Drop)]
+enum Text {
+    Short(ArrayString<8>),
+    Long(Box<String>),
+}
+
 /// The name of a text, of an expression or of anything else that an answer speaks of: text, in a clause its bytes.
 #[derive(Debug, Drop)]
 pub struct Name {
-    text: String,
+    text: Text,
 }
 
 impl Model for Name {
-    ghost use Rattle.std.specs.Prelude.{List, ℕ, string_bytes};
+    ghost use Rattle.std.specs.Prelude.{List, ℕ};
+    ghost use Rattle.form_base.specs.Name.{bytes_of};
 
     ghost Value = { List ℕ };
 
-    ghost view = { λ n. string_bytes n.text };
+    ghost view = { λ n. bytes_of n.text };
 }
 
 impl Name {
     pub fn new(alloc: Global, text: &str) -> Result<Name, AllocError>
         ensures { IfOk result (λ name. name ≡ text.now) }
     {
+        match ArrayString::from(text) {
+            Ok(short) => Ok(Name {
+                text: Text::Short(short),
+            }),
+            Err(_) => Name::long(alloc, text),
+        }
+    }
+
+    /// A name of any length.
+    fn long(alloc: Global, text: &str) -> Result<Name, AllocError>
+        ensures { IfOk result (λ name. name ≡ text.now) }
+    {
+        let text = String::from_str(alloc, text)?;
         Ok(Name {
-            text: String::from_str(alloc, text)?,
+            text: Text::Long(Box::new(alloc, text)?),
         })
     }
 
     pub fn as_str(&self) -> &str
         ensures { result.now ≡ self.now }
     {
-        self.text.as_str()
-    }
-
-    pub fn into_string(self) -> String
-        ensures { string_bytes result ≡ self }
-    {
-        self.text
+        match &self.text {
+            Text::Short(text) => text.as_str(),
+            Text::Long(text) => text.as_str(),
+        }
     }
 }
 

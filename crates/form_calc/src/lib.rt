@@ -19,6 +19,3 @@ pub use operand::number_of;
 pub use row::Row;
 pub use stack::Stack;
 pub use text::Text;
-
-#[cfg(test)]
-mod tests;

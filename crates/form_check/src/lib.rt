@@ -26,6 +26,3 @@ pub use checked::{Checked, IdList, Module, Rewriting, Selection};
 pub use checker::check;
 pub use error::CheckError;
 pub use program::Program;
-
-#[cfg(test)]
-mod tests;

@@ -15,7 +15,7 @@ use form_ast::{Named, Number, Piece, Sign};
 use form_base::{Cause, Id};
 use form_names::{Kind, Names};
 use form_term::{Component, Index};
-use form_tree::{Base, Exponent, Piece as Closing};
+use form_tree::{Base, Exponent, Natural, Piece as Closing};
 use std::alloc::Global;
 
 /// The sign and the name of such a power, where a piece is one.
@@ -51,7 +51,7 @@ pub fn number_base(number: Number) -> Result<Base, CheckError>
     if number.value > LARGEST_NUMBER {
         return Err(CheckError::Refused(Cause::NumberRange, number.spot));
     }
-    Ok(Base::Number(number.value))
+    Ok(Base::Number(Natural::new(number.value)))
 }
 
 /// The name of a symbol.

@@ -1,5 +1,6 @@
 //! Going through the pieces of a right side from the front.
 ghost use Rattle.std.specs.Prelude.{◌≡◌, ◌+◌, ◌<◌, ◌≤◌, ◌^◌, ◌++◌, ◌∷◌, [], OnOk, IfOk, Ok, is_some};
+ghost use Rattle.std.specs.Mem.{FitsInMemory};
 ghost use Rattle.form_check.specs.Marks.{stands_in};
 ghost use Rattle.form_check.specs.Refusal.{Gives, error_of};
 ghost use Rattle.form_check.specs.RightSide.{number as number_of, name as name_of, lone as lone_of, linked as linked_factor, linked_index as linked_index_factor, linked_to, largest_power, wrong, spelled_of, by_kind, symbol as symbol_of, size_alone as size_alone_of, number_base as number_base_of, name_base as name_base_of, linked_base as linked_base_of, base_alone, base_by_kind};
@@ -26,7 +27,7 @@ use form_ast::{Link, Named, Number, Power, Sign};
 use form_base::{Cause, Id};
 use form_names::{Kind, Names};
 use form_term::{Component, Index};
-use form_tree::{Base, Piece};
+use form_tree::{Base, Natural, Piece};
 use std::alloc::{AllocError, Global};
 
 /// Where a walk stands.
@@ -247,6 +248,15 @@ pub fn lone_argument(
     }
 }
 
+/// Puts a piece behind others. (It is proved for any type: for that of pieces alone the checker gives up.)
+fn put<T: Copy>(pieces: &mut Vec<T>, piece: T) -> Result<(), AllocError>
+    requires memory { FitsInMemory T.row }
+    ensures { OnOk result (pieces.new.items ≡ pieces.old.items ++ piece ∷ []) }
+{
+    pieces.push(piece)?;
+    Ok(())
+}
+
 impl Walk {
     pub fn new(pieces: Vec<Piece>) -> Walk
         ensures { walk_of result ≡ at pieces.items Place.Sum 0 }
@@ -281,7 +291,7 @@ impl Walk {
         ensures made { OnOk result (walk_of self.new ≡ at (self.old.pieces.items ++ piece ∷ []) Place.Sum self.old.calls) }
         ensures calls { OnOk result (self.new.calls ≡ self.old.calls) }
     {
-        self.pieces.extend_from_slice(&[piece])?;
+        put(&mut self.pieces, piece)?;
         self.place = Place::Sum;
         Ok(())
     }
@@ -340,7 +350,7 @@ impl Walk {
         let size = size_of(power, LARGEST_POWER)?;
         self.add(Piece::Number {
             link: link_of(link),
-            value: number.value,
+            value: Natural::new(number.value),
             power: number_exponent(number.value, is_over(link), power, size),
         })?;
         Ok(())
@@ -402,11 +412,14 @@ impl Walk {
         ensures made { OnOk result (walk_of self.new ≡ with_factor (walk_of self.old) link (tree.function function is_commuting tree.empty size)) }
         ensures calls { OnOk result (self.new.calls ≡ self.old.calls) }
     {
-        self.pieces.extend_from_slice(&[Piece::Function {
-            link: link_of(link),
-            function,
-            is_commuting,
-        }])?;
+        put(
+            &mut self.pieces,
+            Piece::Function {
+                link: link_of(link),
+                function,
+                is_commuting,
+            },
+        )?;
         self.add(Piece::EndOfFunction { power: size })
     }
 
@@ -517,11 +530,14 @@ impl Walk {
         }
         let symbol = symbol_named(alloc, names, by)?;
         let exponent = exponent_of(is_over(link), sign, symbol);
-        self.pieces.extend_from_slice(&[Piece::Function {
-            link: link_of(link),
-            function,
-            is_commuting,
-        }])?;
+        put(
+            &mut self.pieces,
+            Piece::Function {
+                link: link_of(link),
+                function,
+                is_commuting,
+            },
+        )?;
         self.add(Piece::EndOfRaisedFunction(exponent))?;
         Ok(())
     }
@@ -778,11 +794,14 @@ impl Walk {
     {
         match head(alloc, names, named)? {
             Head::Function(function, is_commuting) => {
-                self.pieces.extend_from_slice(&[Piece::Function {
-                    link: link_of(link),
-                    function,
-                    is_commuting,
-                }])?;
+                put(
+                    &mut self.pieces,
+                    Piece::Function {
+                        link: link_of(link),
+                        function,
+                        is_commuting,
+                    },
+                )?;
                 self.place = Place::Argument;
                 self.calls += 1;
                 Ok(())
@@ -862,12 +881,12 @@ impl Walk {
             }
             form_ast::Piece::Call(link, named) => self.call(alloc, names, *link, named, rest),
             form_ast::Piece::Comma => {
-                self.pieces.extend_from_slice(&[Piece::EndOfArgument])?;
+                put(&mut self.pieces, Piece::EndOfArgument)?;
                 self.place = Place::Argument;
                 Ok(())
             }
             form_ast::Piece::EndOfCall => {
-                self.pieces.extend_from_slice(&[Piece::EndOfArgument])?;
+                put(&mut self.pieces, Piece::EndOfArgument)?;
                 self.end_call(alloc, names, rest)
             }
             form_ast::Piece::Open(link) => {
@@ -907,7 +926,7 @@ impl Walk {
         }
         match field_of(known, piece)? {
             Some(number) => {
-                self.pieces.extend_from_slice(&[Piece::Field(number)])?;
+                put(&mut self.pieces, Piece::Field(number))?;
                 self.place = Place::Behind;
                 Ok(())
             }
@@ -931,7 +950,7 @@ impl Walk {
     {
         match lone_argument(names, piece, rest) {
             Some(argument) => {
-                self.pieces.extend_from_slice(&[argument])?;
+                put(&mut self.pieces, argument)?;
                 self.place = Place::Behind;
                 Ok(())
             }

@@ -3,8 +3,7 @@
 
 mod collector;
 pub mod laws;
+mod short;
 
 pub use collector::{CollectError, Collector};
-
-#[cfg(test)]
-mod tests;
+pub use short::collect_short;

@@ -6,8 +6,10 @@ pub mod Inverses
 mod Keeping
 pub mod Levels
 pub mod Listings
+mod LiteralCalls
 pub mod Literals
 mod LiteralSums
+mod Lones
 pub mod Lookups
 pub mod NumberLists
 pub mod Parenthesized

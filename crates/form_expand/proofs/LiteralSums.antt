@@ -1,5 +1,5 @@
--- Sums of products of numbers and symbols, all of which are read at once.
-use Rattle.std.proofs.Common.{◌≡◌, ℕ, ◌≤◌, false, List, [], ◌∷◌, ◌++◌, length, drop, sym, ap, ◌∙◌, arith}
+-- Sums of products each of which is one term, all of which are read at once.
+use Rattle.std.proofs.Common.{◌≡◌, ℕ, ◌≤◌, false, List, [], ◌∷◌, ◌++◌, length, sym, ap, ◌∙◌, arith}
 use Rattle.form_term.specs.declared.monomial.Monomial.{Monomial}
 use Rattle.form_tree.specs.declared.tree.Piece.{Piece}
 use Rattle.form_expand.specs.declared.literal.Literal.{Literal}
@@ -28,17 +28,18 @@ module _ (max : ℕ) (all : Meanings) where
       ap (limited max) (sym (ap (λ ms. followed (all_of ms) list) none ∙ followed_nothing list))
 
   -- a further product is read
-  pub sum_more : (whole : Listing) (terms : List Monomial) (pieces : List Piece) (l : Literal) (read : ℕ) → IsLiteral max all pieces l read
-      → whole ≡ limited max (followed (all_of terms) (list_of_pieces max all pieces))
-      → whole ≡ limited max (followed (all_of (terms ++ with_sign l.is_minus l.term ∷ [])) (list_of_pieces max all (drop read pieces)))
-  sum_more whole terms pieces l read h e =
-      let rest = list_of_pieces max all (drop read pieces) in
+  pub sum_more : (whole : Listing) (terms made : List Monomial) (pieces rest : List Piece) (l : Literal) → IsLiteral max all pieces l rest
+      → whole ≡ limited max (followed (all_of terms) (list_of_pieces max all pieces)) → made ≡ terms ++ with_sign l.is_minus l.term ∷ []
+      → whole ≡ limited max (followed (all_of made) (list_of_pieces max all rest))
+  sum_more whole terms made pieces rest l h e is =
+      let behind = list_of_pieces max all rest in
       let term = with_sign l.is_minus l.term in
       e
-      ∙ ap (λ b. limited max (followed (all_of terms) b)) (h.list ∙ one_limited max max l.is_minus l.term rest (omega arith))
-      ∙ limited_followed_last max max (all_of terms) (followed (signed l.is_minus (single l.term)) rest) (omega arith)
-      ∙ ap (λ b. limited max (followed (all_of terms) b)) (followed_before term nothing rest ∙ ap (before term) (followed_nothing rest))
-      ∙ ap (limited max) (taken_on terms term rest)
+      ∙ ap (λ b. limited max (followed (all_of terms) b)) (h.list ∙ one_limited max max l.is_minus l.term behind (omega arith))
+      ∙ limited_followed_last max max (all_of terms) (followed (signed l.is_minus (single l.term)) behind) (omega arith)
+      ∙ ap (λ b. limited max (followed (all_of terms) b)) (followed_before term nothing behind ∙ ap (before term) (followed_nothing behind))
+      ∙ ap (limited max) (taken_on terms term behind)
+      ∙ ap (λ ms. limited max (followed (all_of ms) behind)) (sym is)
 
   -- all are read
   pub sum_read : (pieces rest : List Piece) (terms : List Monomial) → rest ≡ [] → length terms ≤ max

@@ -1,26 +1,35 @@
--- Products of numbers and symbols, read into one term.
-use Rattle.std.proofs.Common.{◌≡◌, ℕ, zero, suc, ◌+◌, ◌<◌, ◌≤◌, Bool, true, false, List, [], ◌∷◌, ◌++◌, length, drop, refl, sym, ap, subst, ◌∙◌, arith}
-use Rattle.std.specs.Prelude.{Option, Some, None, Result, Ok}
-use Rattle.std.proofs.lemmas.List.{length-append, drop_all}
+-- Products each of which is read into one term.
+use Rattle.std.proofs.Common.{◌≡◌, ℕ, zero, suc, ◌+◌, ◌-◌, ◌<◌, ◌≤◌, Bool, true, false, List, [], ◌∷◌, ◌++◌, length, take, drop, sym, ap, subst, ◌∙◌, arith}
+use Rattle.std.specs.Prelude.{ℤ, Option, Some, None, Result, Ok, Err, IfOk, IfSome}
+use Rattle.std.specs.Borrow.{Bor}
+use Rattle.std.proofs.lemmas.List.{length-append}
 use Rattle.form_base.specs.declared.cause.Cause.{Cause}
 use Rattle.form_base.specs.declared.cause.Cause.TheVariants.{ExpandLimit}
+use Rattle.form_term.specs.declared.arguments.Arguments.{Arguments}
 use Rattle.form_term.specs.declared.monomial.Monomial.{Monomial}
+use Rattle.form_term.specs.Calls.{call}
 use Rattle.form_term.specs.Monomial.{unit}
 use Rattle.form_normal.specs.Product.{product_of}
 use Rattle.form_tree.specs.declared.tree.Link.{Link}
-use Rattle.form_tree.specs.declared.tree.Link.TheVariants as links
 use Rattle.form_tree.specs.declared.tree.Piece.{Piece}
 use Rattle.form_tree.specs.declared.tree.Piece.TheVariants as pieces
+use Rattle.form_expand.specs.declared.ended.Ended.{Ended}
+use Rattle.form_expand.specs.declared.ended.Ended.TheVariants.{Power}
 use Rattle.form_expand.specs.declared.literal.Literal.{Literal}
-use Rattle.form_expand.specs.Meanings.{Meanings}
+use Rattle.form_expand.specs.Bound.{wild_list}
+use Rattle.form_expand.specs.Closings.{closing_at}
+use Rattle.form_expand.specs.Meanings.{Meanings, function_of}
 use Rattle.form_expand.specs.Left.{row, row_behind}
 use Rattle.form_expand.specs.Listing.{Listing, nothing, single, before_by, limited, followed, pairs, powers, signed}
-use Rattle.form_expand.specs.Literals.{IsLiteral, IsTaken, IsTimes, sign_behind}
-use Rattle.form_expand.specs.Numbers.{number_list, symbol_list}
-use Rattle.form_expand.specs.Readers.{EndsProduct, in_product}
-use Rattle.form_expand.specs.Reading.{Part, in_sum, closed, linked, with_factor, with_piece, fed, read_from, list_of_pieces, begins, begins_product}
+use Rattle.form_expand.specs.Literals.{IsLiteral, IsTakenAt, IsTakenWithin, IsTimes, AreArgued}
+use Rattle.form_expand.specs.Pieces.{list_of_piece}
+use Rattle.form_expand.specs.Readers.{EndsProduct, is_minus_piece, product_part, in_product, list_of_calling}
+use Rattle.form_expand.specs.Reading.{in_sum, in_function, fresh, calling, fed, read_from, list_of_pieces, begins_product}
+use Rattle.form_expand.specs.Singles.{list_of_call}
 use Rattle.form_expand.proofs.Behind.{read_ends}
-use Rattle.form_expand.proofs.Listings.{limited_within, limited_none, limited_refusal, limited_nothing, limited_again, followed_nothing, followed_last, times_before, times_end, pairs_before, pairs_nothing, pairs_refusal}
+use Rattle.form_expand.proofs.Called.{piece_alone}
+use Rattle.form_expand.proofs.Listings.{limited_within, limited_none, limited_refusal, limited_again, followed_last, times_before, times_end, pairs_before, pairs_nothing, pairs_refusal}
+use Rattle.form_expand.proofs.Parenthesized.{read_first, joined_same, read_ended}
 use Rattle.form_expand.proofs.Products.{row_push}
 
 same_ok : (a b : Monomial) (r : Result (Option Monomial) Cause) → r ≡ Ok (Some a) → r ≡ Ok (Some b) → a ≡ b
@@ -61,101 +70,111 @@ one_more max (k ∷ ks) l old new one t =
     ∙ ap (λ last. limited max (pairs (limited max (single old)) (limited max last))) t.alone
     ∙ pair_of_ones max old t.factor new t.product
 
+one_row : (max : ℕ) (factors : List Listing) (m : Monomial) → 0 < length factors → IsOne max factors m → row max factors ≡ limited max (single m)
+one_row max [] m some one = absurd (omega arith)
+one_row max (l ∷ ls) m some one = one
+
 module _ (max : ℕ) (all : Meanings) where
-  -- the product at hand, before which there is none
-  abbrev part : Bool → List Listing → Part
-  part is_minus factors = record { max = max; sum = nothing; is_minus = is_minus; factors = factors }
-
-  -- this is read of the pieces
-  pub record IsReadTo (ps : List Piece) (l : Literal) (read : ℕ) : Type 0 where
+  -- A product that is this term so far is read of the pieces, and this is behind it.
+  pub record IsReadTo (ps : List Piece) (is_minus : Bool) (term : Monomial) (rest : List Piece) : Type 0 where
     pub factors : List Listing
-    pub list : list_of_pieces max all ps ≡ read_from all (record { top = in_sum (part l.is_minus factors); outer = [] }) (drop read ps)
-    pub one : IsOne max factors l.term
-    pub first : read ≡ 0 → factors ≡ []
-    pub some : 0 < read → 0 < length factors
+    pub list : list_of_pieces max all ps ≡ read_from all (in_product max is_minus factors) rest
+    pub one : IsOne max factors term
+    pub some : 0 < length factors
+    pub shorter : length rest < length ps
 
-  pub read_begins : (ps : List Piece) (term : Monomial) → term ≡ unit → IsReadTo ps (record { is_minus = false; term = term }) 0
-  read_begins ps term e = record { factors = []; list = refl; one = e; first = λ h. refl; some = λ h. absurd (omega arith) }
+  pub first_taken : (ps : List Piece) (piece : Piece) (more : List Piece) (old new : Monomial) (rest : List Piece) → ps ≡ piece ∷ more → old ≡ unit → IsTakenAt max all piece more old new rest → IsReadTo ps (is_minus_piece piece) new rest
+  first_taken ps piece more old new rest is begun t =
+      let m = is_minus_piece piece in
+      record {
+        factors = limited max t.taken.list ∷ [];
+        list = ap (list_of_pieces max all) is ∙ read_first max all piece more ∙ t.taken.read [] m;
+        one = one_more max [] t.taken.list old new begun t.taken.times;
+        some = omega arith;
+        shorter = omega (arith, ap length is, t.shorter);
+      }
 
-  closed_none : (is_minus : Bool) → closed (part is_minus []) ≡ nothing
-  unfolding closed row
-  closed_none is_minus = ap (limited max) (followed_nothing nothing) ∙ limited_nothing max
+  pub next_taken : (ps : List Piece) (is_minus : Bool) (piece : Piece) (more : List Piece) (old new : Monomial) (here rest : List Piece) → here ≡ piece ∷ more → begins_product piece ≡ false
+      → IsReadTo ps is_minus old here → IsTakenAt max all piece more old new rest → IsReadTo ps is_minus new rest
+  next_taken ps is_minus piece more old new here rest is on h t = record {
+    factors = h.factors ++ limited max t.taken.list ∷ [];
+    list = h.list
+        ∙ ap (read_from all (in_product max is_minus h.factors)) (is ∙ ap (λ p. p ∷ more) (sym (joined_same piece on)))
+        ∙ t.taken.read h.factors is_minus;
+    one = one_more max h.factors t.taken.list old new h.one t.taken.times;
+    some = omega (arith, length-append h.factors (limited max t.taken.list ∷ []));
+    shorter = omega (arith, ap length is, t.shorter, h.shorter);
+  }
 
-  linked_is : (link : Link) (is_minus : Bool) (factors : List Listing) → (begins link ≡ true → factors ≡ []) → linked link (part is_minus factors) ≡ part (sign_behind is_minus link) factors
-  linked_is links.Plus is_minus factors h = rw (h refl) (ap (λ l. record { max = max; sum = l; is_minus = false; factors = [] }) (closed_none is_minus))
-  linked_is links.Minus is_minus factors h = rw (h refl) (ap (λ l. record { max = max; sum = l; is_minus = true; factors = [] }) (closed_none is_minus))
-  linked_is links.Times is_minus factors h = refl
+  pub literal_read : (ps : List Piece) (is_minus : Bool) (term : Monomial) (rest : List Piece) → IsReadTo ps is_minus term rest → EndsProduct rest → IsLiteral max all ps (record { is_minus = is_minus; term = term }) rest
+  literal_read ps is_minus term rest h ends = record {
+    shorter = h.shorter;
+    list = h.list
+        ∙ read_ends max all is_minus h.factors rest ends
+        ∙ ap (λ product. limited max (followed (signed is_minus product) (list_of_pieces max all rest))) (one_row max h.factors term h.some h.one);
+  }
 
-  -- a further factor is read
-  factor_read : (ps rest : List Piece) (link : Link) (l : Listing) (old new : Literal) (read : ℕ) (h : IsReadTo ps old read)
-      → read_from all (record { top = in_sum (part old.is_minus h.factors); outer = [] }) (drop read ps) ≡ read_from all (with_piece link l 1 (record { top = in_sum (part old.is_minus h.factors); outer = [] })) (drop (read + 1) ps)
-      → (begins link ≡ true → h.factors ≡ []) → new.is_minus ≡ sign_behind old.is_minus link → IsTimes l old.term new.term → IsReadTo ps new (read + 1)
+  -- a factor that is one piece
+  piece_taken : (piece : Piece) (l : Listing) (more : List Piece) (old new : Monomial) → list_of_piece all piece ≡ Some (l, 1) → IsTimes l old new → IsTakenAt max all piece more old new more
   unfolding powers
-  factor_read ps rest link l old new read h on starts sign t =
-      let before : linked link (part old.is_minus h.factors) ≡ part new.is_minus h.factors = linked_is link old.is_minus h.factors starts ∙ ap (λ b. part b h.factors) (sym sign) in
-      record {
-        factors = h.factors ++ limited max l ∷ [];
-        list = h.list ∙ on ∙ ap (λ (p : Part). read_from all (record { top = in_sum (with_factor l 1 p); outer = [] }) (drop (read + 1) ps)) before;
-        one = one_more max h.factors l old.term new.term h.one t;
-        first = λ e. absurd (omega arith);
-        some = λ e. let n = length-append h.factors (limited max l ∷ []) in omega arith;
-      }
+  piece_taken piece l more old new is t = record {
+    taken = record { list = l; times = t; read = λ factors m. piece_alone all piece l 1 is max m factors more };
+    shorter = omega arith;
+  }
 
-  starts_first : (read : ℕ) (b : Bool) (factors : List Listing) → (read ≡ 0 → factors ≡ []) → (0 < read → b ≡ false) → b ≡ true → factors ≡ []
-  starts_first zero b factors first on e = first refl
-  starts_first (suc read) b factors first on e = let f = on (omega arith) in cc
+  pub taken_behind : (found : Option (Bor (List Piece))) (taken : Bool) (piece : Piece) (l : Listing) (more : List Piece) (old new : Monomial) → IfSome found (λ rest. (taken ≡ true) × (rest.now ≡ more)) → list_of_piece all piece ≡ Some (l, 1) → (taken ≡ true → IsTimes l old new)
+      → IfSome found (λ rest. IsTakenAt max all piece more old new rest.now)
+  taken_behind None taken piece l more old new h is t = tt
+  taken_behind (Some rest) taken piece l more old new h is t = subst (λ (ps : List Piece). IsTakenAt max all piece more old new ps) (sym h.1) (piece_taken piece l more old new is (t h.0))
 
-  pub read_taken : (ps : List Piece) (piece : Piece) (old new : Literal) (read : ℕ) → drop read ps ≡ piece ∷ drop (read + 1) ps → (0 < read → begins_product piece ≡ false)
-      → IsTaken piece old new → IsReadTo ps old read → IsReadTo ps new (read + 1)
+  -- a wildcard
+  pub taken_wild : (found : Option (Bor (List Piece))) (taken : Bool) (piece : Piece) (link : Link) (symbol : ℕ) (is_over : Bool) (power : ℤ) (more : List Piece) (old new : Monomial) → piece ≡ pieces.Wild link symbol is_over power
+      → IfSome found (λ rest. (taken ≡ true) × (rest.now ≡ more)) → (taken ≡ true → wild_list all symbol is_over power ≡ ((wild_list all symbol is_over power).0, 1)) → (taken ≡ true → IsTimes (wild_list all symbol is_over power).0 old new)
+      → IfSome found (λ rest. IsTakenAt max all piece more old new rest.now)
+  taken_wild None taken piece link symbol is_over power more old new is h one t = tt
+  taken_wild (Some rest) taken piece link symbol is_over power more old new is h one t =
+      taken_behind (Some rest) taken piece (wild_list all symbol is_over power).0 more old new h (ap (list_of_piece all) is ∙ ap Some (one h.0)) t
+
+  -- a function
+  call_taken : (link : Link) (f : ℕ) (is_commuting : Bool) (more : List Piece) (old new : Monomial) (rest : List Piece) → IsTakenWithin (function_of all f) is_commuting max all more old new rest → IsTakenAt max all (pieces.Function link f is_commuting) more old new rest
   unfolding read_from fed
-  read_taken ps (pieces.Number link value power) old new read rest on t h =
-      factor_read ps (drop (read + 1) ps) link (number_list value power) old new read h (ap (read_from all (record { top = in_sum (part old.is_minus h.factors); outer = [] })) rest)
-      (starts_first read (begins link) h.factors h.first on) t.0 t.1
-  read_taken ps (pieces.Symbol link symbol power) old new read rest on t h =
-      factor_read ps (drop (read + 1) ps) link (symbol_list symbol power) old new read h (ap (read_from all (record { top = in_sum (part old.is_minus h.factors); outer = [] })) rest)
-      (starts_first read (begins link) h.factors h.first on) t.0 t.1
-  read_taken ps (pieces.Wild link symbol is_over power) old new read rest on t h = absurd t
-  read_taken ps (pieces.Raised link base by) old new read rest on t h = absurd t
-  read_taken ps (pieces.EndOfRaisedFunction by) old new read rest on t h = absurd t
-  read_taken ps (pieces.Field w) old new read rest on t h = absurd t
-  read_taken ps (pieces.CloseRaised by) old new read rest on t h = absurd t
-  read_taken ps (pieces.Stored link expression power) old new read rest on t h = absurd t
-  read_taken ps (pieces.Imaginary link power) old new read rest on t h = absurd t
-  read_taken ps (pieces.Dot link p q power) old new read rest on t h = absurd t
-  read_taken ps (pieces.Component link c power) old new read rest on t h = absurd t
-  read_taken ps (pieces.Delta link i j power) old new read rest on t h = absurd t
-  read_taken ps (pieces.Function link f is_commuting) old new read rest on t h = absurd t
-  read_taken ps (pieces.EndOfFunction power) old new read rest on t h = absurd t
-  read_taken ps (pieces.Index i) old new read rest on t h = absurd t
-  read_taken ps (pieces.Vector v) old new read rest on t h = absurd t
-  read_taken ps pieces.Argument old new read rest on t h = absurd t
-  read_taken ps pieces.EndOfArgument old new read rest on t h = absurd t
-  read_taken ps (pieces.Open link) old new read rest on t h = absurd t
-  read_taken ps (pieces.Close power) old new read rest on t h = absurd t
+  call_taken link f is_commuting more old new rest h = record {
+    taken = record { list = h.taken.list; times = h.taken.times; read = h.taken.read };
+    shorter = h.shorter;
+  }
 
-  one_row : (factors : List Listing) (m : Monomial) → 0 < length factors → IsOne max factors m → row max factors ≡ limited max (single m)
-  one_row [] m some one = absurd (omega arith)
-  one_row (l ∷ ls) m some one = one
+  pub call_taken_from : {E : Type 0} (r : Result (Option (Bor (List Piece))) E) (piece : Piece) (link : Link) (f g : ℕ) (is_commuting : Bool) (more : List Piece) (old new : Monomial) → piece ≡ pieces.Function link f is_commuting → g ≡ function_of all f
+      → IfOk r (λ found. IfSome found (λ rest. IsTakenWithin g is_commuting max all more old new rest.now)) → IfOk r (λ found. IfSome found (λ rest. IsTakenAt max all piece more old new rest.now))
+  call_taken_from (Ok None) piece link f g is_commuting more old new is e h = tt
+  call_taken_from (Ok (Some rest)) piece link f g is_commuting more old new is e h =
+      subst (λ (p : Piece). IsTakenAt max all p more old new rest.now) (sym is)
+      (call_taken link f is_commuting more old new rest.now (subst (λ (n : ℕ). IsTakenWithin n is_commuting max all more old new rest.now) e h))
+  call_taken_from (Err failed) piece link f g is_commuting more old new is e h = tt
 
-  literal_from : (ps : List Piece) (l : Literal) (read end : ℕ) (h : IsReadTo ps l read) → 0 < read → 0 < end → end ≤ length ps → drop read ps ≡ drop end ps → EndsProduct (drop end ps) → IsLiteral max all ps l end
-  literal_from ps l read end h some begun within same ends =
-      let one = one_row h.factors l.term (h.some some) h.one in
+  -- its arguments have these pieces
+  pub within_taken : (f : ℕ) (is_commuting : Bool) (arguments : Arguments) (ps within rest : List Piece) (len : ℕ) (old new : Monomial) → closing_at 0 0 ps ≡ Some (len, Power 1) → within ≡ take len ps → rest ≡ drop (len + 1) ps
+      → AreArgued max all within arguments → IsTimes (list_of_call is_commuting (call f arguments)) old new → length rest ≤ length ps → IsTakenWithin f is_commuting max all ps old new rest
+  unfolding powers
+  within_taken f is_commuting arguments ps within rest len old new closes front behind argued t short =
+      let k = calling max f is_commuting in
+      let l = list_of_call is_commuting (call f arguments) in
+      let e : len - 0 ≡ len = omega arith in
+      let same : list_of_calling all k (take len ps) ≡ l = ap (list_of_calling all k) (sym front) ∙ argued f is_commuting in
       record {
-        some = begun;
-        within = within;
-        list = h.list
-            ∙ ap (read_from all (in_product max l.is_minus h.factors)) same
-            ∙ read_ends max all l.is_minus h.factors (drop end ps) ends
-            ∙ ap (λ product. limited max (followed (signed l.is_minus product) (list_of_pieces max all (drop end ps)))) one;
+        taken = record {
+          list = l;
+          times = t;
+          read = λ factors m.
+              let h = read_ended all (in_sum (product_part max m factors)) 0 (in_function k) [] ps len (Power 1) closes in
+              (rw e at h.read)
+              ∙ ap (λ (x : Listing). read_from all (in_product max m (factors ++ limited max x ∷ [])) (drop (len + 1) ps)) same
+              ∙ ap (read_from all (in_product max m (factors ++ limited max l ∷ []))) (sym behind);
+        };
+        shorter = short;
       }
 
-  -- up to a further product
-  pub literal_before : (ps : List Piece) (l : Literal) (read : ℕ) (piece : Piece) (more : List Piece) → IsReadTo ps l read → 0 < read → read ≤ length ps
-      → drop read ps ≡ piece ∷ more → begins_product piece ≡ true → IsLiteral max all ps l read
-  literal_before ps l read piece more h some within rest begins = literal_from ps l read read h some some within refl (subst EndsProduct (sym rest) begins)
-
-  -- to the end
-  pub literal_last : (ps : List Piece) (l : Literal) (read : ℕ) → IsReadTo ps l read → 0 < length ps → length ps ≤ read → IsLiteral max all ps l (length ps)
-  literal_last ps l read h some past =
-      let none : drop (length ps) ps ≡ [] = drop_all (length ps) ps (omega arith) in
-      literal_from ps l read (length ps) h (omega arith) some (omega arith) (drop_all read ps past ∙ sym none) (subst EndsProduct (sym none) tt)
+-- how many pieces stand before the end
+pub ends_within : (all : Meanings) (ps : List Piece) (len : ℕ) (by : Ended) → closing_at 0 0 ps ≡ Some (len, by) → len < length ps
+ends_within all ps len by closes =
+    let h = read_ended all (in_sum (fresh 0)) 0 (in_sum (fresh 0)) [] ps len by closes in
+    omega (arith, h.within)

@@ -1,5 +1,6 @@
 -- The lists of a row, each within the limit.
-use Rattle.std.proofs.Common.{◌≡◌, ℕ, zero, suc, List, [], ◌∷◌, ◌++◌, map, refl, sym, ap, ◌∙◌, arith, append_assoc, append-nil}
+use Rattle.std.proofs.Common.{◌≡◌, ℕ, zero, suc, ◌<◌, ◌≤◌, Bool, true, false, List, [], ◌∷◌, ◌++◌, Option, Some, None, Result, Ok, Err, length, map, refl, sym, ap, ◌∙◌, arith, append_assoc, append-nil}
+use Rattle.std.specs.Bool.{OnTrue}
 use Rattle.std.proofs.lemmas.List.{map-append}
 use Rattle.form_base.specs.declared.cause.Cause.{Cause}
 use Rattle.form_base.specs.declared.cause.Cause.TheVariants.{ExpandLimit}
@@ -9,12 +10,16 @@ use Rattle.form_expand.specs.declared.row.Part.TheVariants as parts
 use Rattle.form_expand.specs.declared.factor.Factor.{Factor}
 use Rattle.form_expand.specs.Factors.{factor_whole}
 use Rattle.form_expand.specs.Kept.{listing}
-use Rattle.form_expand.specs.Left.{row, row_behind}
-use Rattle.form_expand.specs.Listing.{Listing, nothing, single, refusal, limited}
+use Rattle.form_normal.specs.Product.{product_of}
+use Rattle.form_expand.specs.Left.{row, row_behind, times_by}
+use Rattle.form_expand.specs.Listing.{Listing, nothing, single, refusal, before_by, limited, followed, times, times_each, pairs}
 use Rattle.form_expand.specs.Parts.{part_list}
 use Rattle.form_expand.specs.Singles.{once}
+use Rattle.form_expand.specs.Walks.{walk_left}
+use Rattle.form_expand.specs.declared.walk.Walk.{Walk}
 use Rattle.form_expand.proofs.Behind.{limited_pieces}
-use Rattle.form_expand.proofs.Listings.{limited_within, limited_again, limited_none, limited_refusal, pairs_refusal}
+use Rattle.form_expand.proofs.Listings.{followed_last, limited_within, limited_again, limited_length, limited_none, limited_refusal, pairs_before, pairs_nothing, pairs_refusal}
+use Rattle.form_expand.proofs.Taking.{times_by_end}
 
 -- a list of a row as the limit cuts it
 abbrev pub bounded : ℕ → Part → Listing
@@ -78,3 +83,49 @@ factors_done max fs m ps all product so_far none is =
     is
     ∙ ap (row max) (sym (append-nil (map (factor_whole max) fs)) ∙ ap (λ qs. map (factor_whole max) fs ++ map (bounded max) qs) (sym none) ∙ so_far)
     ∙ row_of_parts max m all
+
+-- A term and one list behind it.
+
+-- the product with each term of a list has no more terms than the list
+times_length : (m : Monomial) (rs : List Monomial) (end : Option Cause) → length ((times_each m rs end).terms) ≤ length rs
+unfolding times_each
+times_length m [] end = omega arith
+times_length m (r ∷ rs) end = step (product_of m r) (times_length m rs end)
+  where
+    step : (made : Result (Option Monomial) Cause) → length ((times_each m rs end).terms) ≤ length rs → length ((before_by made (times_each m rs end)).terms) ≤ suc (length rs)
+    step (Ok (Some p)) h = omega (arith, h)
+    step (Ok None) h = omega (arith, h)
+    step (Err cause) h = omega arith
+
+-- where a term may stand, the row is the product with each term of the list
+pub pair_row : (max : ℕ) (m : Monomial) (l left : Listing) → 0 < max → left ≡ limited max l → times m left ≡ row max (single m ∷ limited max l ∷ [])
+unfolding row row_behind
+pair_row max m l left some is =
+    let list = limited max l in
+    ap (λ x. times m x) is
+    ∙ sym (limited_within max (times m list) (omega (arith, times_length m list.terms list.end, limited_length max l)))
+    ∙ ap (limited max) (sym (pairs_before m nothing list ∙ ap (λ x. followed (times m list) x) (pairs_nothing list) ∙ followed_last (times m list)))
+    ∙ ap (λ front. limited max (pairs front list)) (sym (limited_within max (single m) (omega (arith, some))))
+
+-- the factors of such a row
+pub two_factors : (max : ℕ) (fs gs : List Factor) (f g : Factor) (m : Monomial) (product : Listing) → fs ≡ f ∷ [] → gs ≡ fs ++ g ∷ [] → factor_whole max f ≡ limited max (single m)
+    → product ≡ row max (map (factor_whole max) gs) → product ≡ row max (single m ∷ factor_whole max g ∷ [])
+two_factors max fs gs f g m product first both is made =
+    made
+    ∙ ap (λ hs. row max (map (factor_whole max) hs)) (both ∙ ap (λ hs. hs ++ g ∷ []) first)
+    ∙ ap (λ l. row max (l ∷ factor_whole max g ∷ [])) is
+    ∙ first_same max (single m) (factor_whole max g ∷ [])
+
+-- a row of a term and one list within the limit
+pub row_of_part : (max : ℕ) (m : Monomial) (p : Part) (f : Factor) (made : Listing) → factor_whole max f ≡ bounded max p → made ≡ row max (single m ∷ factor_whole max f ∷ [])
+    → made ≡ row max (single m ∷ part_list max p ∷ [])
+row_of_part max m p f made is row_is =
+    row_is
+    ∙ ap (λ l. row max (single m ∷ l ∷ [])) is
+    ∙ sym (first_same max (single m) (bounded max p ∷ []))
+    ∙ row_of_parts max m (p ∷ [])
+
+-- a list that is spent, behind a term
+pub spent_pair : (b : Bool) (left : Option Monomial) (w : Walk) → OnTrue b ((max : ℕ) → walk_left max w ≡ nothing) → OnTrue b ((max : ℕ) → times_by left (walk_left max w) ≡ nothing)
+spent_pair true left w h = λ max. ap (times_by left) (h max) ∙ times_by_end left None
+spent_pair false left w h = tt

@@ -1,5 +1,5 @@
 -- Taking terms from a sum whose products are gone through one after the other.
-use Rattle.std.proofs.Common.{◌≡◌, ℕ, zero, suc, ◌+◌, ◌-◌, ◌<◌, ◌≤◌, Bool, false, List, [], ◌∷◌, map, drop, refl, sym, ap, subst, ◌∙◌, arith}
+use Rattle.std.proofs.Common.{◌≡◌, ℕ, zero, suc, ◌+◌, ◌-◌, ◌<◌, ◌≤◌, Bool, false, List, [], ◌∷◌, map, refl, sym, ap, subst, ◌∙◌, arith}
 use Rattle.std.specs.Prelude.{Option, Result, Err}
 use Rattle.form_base.specs.declared.cause.Cause.TheVariants.{ExpandLimit}
 use Rattle.form_term.specs.declared.monomial.Monomial.{Monomial}
@@ -88,15 +88,15 @@ one_limited n zero is_minus m rest h =
     ∙ ap (limited 0) (sym (followed_before (with_sign is_minus m) (signed is_minus nothing) rest)))
 one_limited n (suc k) is_minus m rest h = ap (λ l. limited n (followed (signed is_minus l) rest)) (limited_within (suc k) (single m) (omega arith))
 
--- a product of numbers and symbols is read, whose term is next
-pub stream_literal : (limit given : ℕ) (all : Meanings) (pieces : List Piece) (literal : Literal) (read : ℕ) (was_minus : Bool) (product : Listing) → IsLiteral limit all pieces literal read → product ≡ nothing
-    → limited (limit - given) (followed (signed literal.is_minus (before literal.term product)) (list_of_pieces limit all (drop read pieces)))
+-- a product that is one term is read, which is next
+pub stream_literal : (limit given : ℕ) (all : Meanings) (pieces rest : List Piece) (literal : Literal) (was_minus : Bool) (product : Listing) → IsLiteral limit all pieces literal rest → product ≡ nothing
+    → limited (limit - given) (followed (signed literal.is_minus (before literal.term product)) (list_of_pieces limit all rest))
     ≡ limited (limit - given) (followed (signed was_minus product) (list_of_pieces limit all pieces))
-stream_literal limit given all pieces literal read was_minus product h done =
-    let rest = list_of_pieces limit all (drop read pieces) in
-    ap (λ l. limited (limit - given) (followed (signed literal.is_minus (before literal.term l)) rest)) done
-    ∙ sym (one_limited (limit - given) limit literal.is_minus literal.term rest (omega arith))
-    ∙ sym (limited_limited (limit - given) limit (followed (signed literal.is_minus (limited limit (single literal.term))) rest) (omega arith))
+stream_literal limit given all pieces rest literal was_minus product h done =
+    let behind = list_of_pieces limit all rest in
+    ap (λ l. limited (limit - given) (followed (signed literal.is_minus (before literal.term l)) behind)) done
+    ∙ sym (one_limited (limit - given) limit literal.is_minus literal.term behind (omega arith))
+    ∙ sym (limited_limited (limit - given) limit (followed (signed literal.is_minus (limited limit (single literal.term))) behind) (omega arith))
     ∙ ap (limited (limit - given)) (sym h.list)
     ∙ sym (stream_on limit given was_minus (list_of_pieces limit all pieces) product done)
 

@@ -12,6 +12,7 @@ pub mod Kept
 pub mod Left
 pub mod Listing
 pub mod Literals
+pub mod Lones
 pub mod Meanings
 pub mod Modes
 pub mod Next
@@ -22,6 +23,7 @@ pub mod Pieces
 pub mod Products
 pub mod Readers
 pub mod Reading
+pub mod RowLists
 pub mod Singles
 pub mod Stored
 pub mod Streams

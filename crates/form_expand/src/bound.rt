@@ -228,7 +228,7 @@ fn list_to<'a>(
     ensures { IfOk result (λ found. listed found ≡ definition.list_of_base names.now base.now is_over (Some exponent)) }
 {
     match base {
-        Base::Number(number) => Ok(number_to(alloc, *number, is_over, exponent)),
+        Base::Number(number) => Ok(number_to(alloc, number.get(), is_over, exponent)),
         Base::Symbol(symbol) => { Ok((symbol_to(alloc, *symbol, turned(is_over, exponent))?, 1)) }
         Base::Wild(symbol) => wild_list(alloc, names, *symbol, is_over, exponent),
         Base::Dot(left, right) => {

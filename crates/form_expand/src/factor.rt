@@ -66,7 +66,7 @@ impl<'a> Factor<'a> {
         if power == 0 {
             return Ok(Factor::Once(Walk::new(Whole::single(Monomial::unit(alloc)))));
         }
-        if let Some(terms) = literal_sum(alloc, pieces, limit, most)? {
+        if let Some(terms) = literal_sum(alloc, stored, pieces, limit, most)? {
             return Ok(Factor::new(alloc, Whole::made(terms), power)?);
         }
         let parenthesis = Parenthesis::new(alloc, limit, stored, pieces, power - 1);

@@ -19,6 +19,7 @@ mod factor;
 mod function;
 pub mod laws;
 mod literal;
+mod literal_arguments;
 mod literal_sum;
 mod number;
 mod parenthesis;
@@ -42,6 +43,3 @@ pub use expansion::{Expansion, expand_tree, whole_list};
 pub use row::{Part, Row};
 pub use stored::{Standing, Stored, Terms};
 pub use whole::Whole;
-
-#[cfg(test)]
-mod tests;

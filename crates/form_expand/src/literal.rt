@@ -1,19 +1,33 @@
-//! Products of numbers and symbols, as the summands of a long sum are, each read into one term.
-ghost use Rattle.std.specs.Prelude.{◌≡◌, ◌<◌, ℕ, length, true, Ok, IfOk, IfSome};
-ghost use Rattle.form_expand.specs.Meanings.{Meanings};
+//! Products that are one term, each read into that term: of numbers, symbols, wildcards that stand for a number, and functions
+//! whose arguments are sums of few such products.
+ghost use Rattle.std.specs.Prelude.{◌≡◌, true, [], ◌∷◌, Some, None, Ok, IfOk, IfSome};
+ghost use Rattle.form_expand.specs.Bound.{wild_list};
+ghost use Rattle.form_expand.specs.Closings.{closing_at};
+ghost use Rattle.form_expand.specs.declared.ended.Ended.TheVariants as ends;
 ghost use Rattle.form_expand.specs.Listing.{with_sign};
-ghost use Rattle.form_expand.specs.Literals.{IsLiteral, IsTaken, IsTimes, sign_behind};
+ghost use Rattle.form_expand.specs.Literals.{IsLiteral, IsTakenAt, IsTakenWithin, IsTimes};
+ghost use Rattle.form_expand.specs.Meanings.{function_of};
 ghost use Rattle.form_expand.specs.Numbers.{number_list, symbol_list};
+ghost use Rattle.form_expand.specs.Singles.{list_of_call};
 
+use crate::ended::Ended;
+use crate::literal_arguments::literal_arguments;
 use crate::number::{LARGEST_EXPONENT, number_alone};
-use crate::reader::begins;
+use crate::reader::{begins, closing, is_subtracted};
+use crate::stored::Standing;
 use form_base::Id;
-use form_normal::{ProductError, laws, multiply_by_number, multiply_by_power};
-use form_term::{Monomial, Power};
-use form_tree::{Link, Piece};
+use form_normal::{
+    ProductError, laws, multiply_by_number, multiply_by_power, times_function, times_word,
+};
+use form_term::{Call, Monomial, Power, number_in};
+use form_tree::Piece;
 use std::alloc::{AllocError, Global};
+use std::mem;
 
-/// What is read of a product of numbers and symbols: its sign, and the one term that it is so far.
+/// How deep functions may stand within one another in such a product.
+pub const DEEPEST: u64 = 16;
+
+/// What is read of a product: its sign, and its term.
 #[derive(Drop)]
 pub struct Literal {
     pub is_minus: bool,
@@ -21,39 +35,6 @@ pub struct Literal {
 }
 
 impl Literal {
-    /// Multiplies by a further factor. Answers false where that is no number or symbol, or gives no term.
-    fn take(&mut self, alloc: Global, piece: &Piece) -> Result<bool, AllocError>
-        ensures { result ≡ Ok true → IsTaken piece.now self.old self.new }
-    {
-        match piece {
-            Piece::Number { link, value, power } => {
-                self.link(*link);
-                self.take_number(alloc, *value, *power)
-            }
-            Piece::Symbol {
-                link,
-                symbol,
-                power,
-            } => {
-                self.link(*link);
-                self.take_symbol(alloc, *symbol, *power)
-            }
-            _ => Ok(false),
-        }
-    }
-
-    /// Takes the sign of a product that begins.
-    fn link(&mut self, link: Link)
-        ensures sign { self.new.is_minus ≡ sign_behind self.old.is_minus link }
-        ensures term { self.new.term ≡ self.old.term }
-    {
-        match link {
-            Link::Plus => self.is_minus = false,
-            Link::Minus => self.is_minus = true,
-            Link::Times => {}
-        }
-    }
-
     /// The term behind its sign.
     pub fn into_term(self) -> Monomial
         ensures { result ≡ with_sign self.is_minus self.term }
@@ -61,31 +42,229 @@ impl Literal {
         let Literal { is_minus, term } = self;
         if is_minus { term.negated() } else { term }
     }
+}
 
-    fn take_number(&mut self, alloc: Global, value: u128, power: i32) -> Result<bool, AllocError>
-        ensures times { result ≡ Ok true → IsTimes (number_list value power) self.old.term self.new.term }
-        ensures sign { self.new.is_minus ≡ self.old.is_minus }
-    {
-        laws::single_factors();
-        let Some(number) = number_alone(value, power) else {
-            return Ok(false);
-        };
-        made(multiply_by_number(alloc, &mut self.term, number))
-    }
-
-    fn take_symbol(&mut self, alloc: Global, symbol: Id, power: i32) -> Result<bool, AllocError>
-        ensures times { result ≡ Ok true → IsTimes (symbol_list symbol power) self.old.term self.new.term }
-        ensures sign { self.new.is_minus ≡ self.old.is_minus }
-    {
-        laws::single_factors();
-        if power.unsigned_abs() > LARGEST_EXPONENT {
-            return Ok(false);
+/// Reads the product that these pieces begin with, where it is a term that is made so. Answers it, and the pieces behind it.
+/// `deeper` counts down with each function.
+#[cycle(literal)]
+pub fn read_literal<'a>(
+    alloc: Global,
+    pieces: &'a [Piece],
+    names: &Standing,
+    limit: u64,
+    deeper: u64,
+) -> Result<Option<(Literal, &'a [Piece])>, AllocError>
+    ensures { IfOk result (λ found. IfSome found (λ read. IsLiteral limit names.now pieces.now read.0 read.1.now)) }
+{
+    let Some((first, more)) = pieces.split_first() else {
+        return Ok(None);
+    };
+    let is_minus = is_subtracted(first);
+    let mut term = Monomial::unit(alloc);
+    let Some(mut rest) = take(alloc, &mut term, first, more, names, limit, deeper)? else {
+        return Ok(None);
+    };
+    while let Some((piece, more)) = rest.split_first() {
+        if begins(piece) {
+            return Ok(Some((Literal { is_minus, term }, rest)));
         }
-        let power = Power {
-            symbol,
-            exponent: power,
+        let Some(behind) = take(alloc, &mut term, piece, more, names, limit, deeper)? else {
+            return Ok(None);
         };
-        made(multiply_by_power(alloc, &mut self.term, power))
+        rest = behind;
+    }
+    Ok(Some((Literal { is_minus, term }, rest)))
+}
+
+/// Multiplies by the factor that begins with this piece. Answers the pieces behind it; none where it gives up.
+#[cycle(literal)]
+fn take<'a>(
+    alloc: Global,
+    front: &mut Monomial,
+    piece: &Piece,
+    more: &'a [Piece],
+    names: &Standing,
+    limit: u64,
+    deeper: u64,
+) -> Result<Option<&'a [Piece]>, AllocError>
+    ensures { IfOk result (λ found. IfSome found (λ rest. IsTakenAt limit names.now piece.now more.now front.old front.new rest.now)) }
+{
+    match piece {
+        Piece::Number { value, power, .. } => {
+            Ok(behind(take_number(alloc, front, value.get(), *power)?, more))
+        }
+        Piece::Symbol { symbol, power, .. } => {
+            Ok(behind(take_symbol(alloc, front, *symbol, *power)?, more))
+        }
+        Piece::Wild {
+            symbol,
+            is_over,
+            power,
+            ..
+        } => Ok(behind(
+            take_wild(alloc, front, names, *symbol, *is_over, *power)?,
+            more,
+        )),
+        Piece::Function {
+            function,
+            is_commuting,
+            ..
+        } => {
+            let function = names.function(*function);
+            take_function(
+                alloc,
+                front,
+                more,
+                names,
+                limit,
+                function,
+                *is_commuting,
+                deeper,
+            )
+        }
+        _ => Ok(None),
+    }
+}
+
+/// These pieces, where what is before them is taken.
+fn behind(is_taken: bool, pieces: &[Piece]) -> Option<&[Piece]>
+    ensures { IfSome result (λ rest. (is_taken ≡ true) × (rest.now ≡ pieces.now)) }
+{
+    if is_taken { Some(pieces) } else { None }
+}
+
+fn take_number(
+    alloc: Global,
+    front: &mut Monomial,
+    value: u128,
+    power: i32,
+) -> Result<bool, AllocError>
+    ensures { result ≡ Ok true → IsTimes (number_list value power) front.old front.new }
+{
+    laws::single_factors();
+    let Some(number) = number_alone(value, power) else {
+        return Ok(false);
+    };
+    made(multiply_by_number(alloc, front, number))
+}
+
+fn take_symbol(
+    alloc: Global,
+    front: &mut Monomial,
+    symbol: Id,
+    power: i32,
+) -> Result<bool, AllocError>
+    ensures { result ≡ Ok true → IsTimes (symbol_list symbol power) front.old front.new }
+{
+    laws::single_factors();
+    if power.unsigned_abs() > LARGEST_EXPONENT {
+        return Ok(false);
+    }
+    let power = Power {
+        symbol,
+        exponent: power,
+    };
+    made(multiply_by_power(alloc, front, power))
+}
+
+/// A wildcard that stands for a number.
+fn take_wild(
+    alloc: Global,
+    front: &mut Monomial,
+    names: &Standing,
+    symbol: Id,
+    is_over: bool,
+    power: i32,
+) -> Result<bool, AllocError>
+    ensures one { result ≡ Ok true → wild_list names.now symbol is_over power ≡ ((wild_list names.now symbol is_over power).0, 1) }
+    ensures times { result ≡ Ok true → IsTimes (wild_list names.now symbol is_over power).0 front.old front.new }
+{
+    laws::single_factors();
+    if is_over {
+        return Ok(false);
+    }
+    if power != 1 {
+        return Ok(false);
+    }
+    let Some(value) = names.expression(symbol) else {
+        return Ok(false);
+    };
+    let Some(number) = number_in(value) else {
+        return Ok(false);
+    };
+    made(multiply_by_number(alloc, front, number))
+}
+
+/// A function, behind the piece that begins it.
+#[cycle(literal)]
+fn take_function<'a>(
+    alloc: Global,
+    front: &mut Monomial,
+    pieces: &'a [Piece],
+    names: &Standing,
+    limit: u64,
+    function: Id,
+    is_commuting: bool,
+    deeper: u64,
+) -> Result<Option<&'a [Piece]>, AllocError>
+    ensures { IfOk result (λ found. IfSome found (λ rest. IsTakenWithin function is_commuting limit names.now pieces.now front.old front.new rest.now)) }
+{
+    let Some(len) = closing_once(pieces) else {
+        return Ok(None);
+    };
+    let (within, behind) = pieces.split_at(len);
+    let Some(arguments) = literal_arguments(alloc, names, within, limit, deeper)? else {
+        return Ok(None);
+    };
+    let call = arguments.into_call(function)?;
+    if !take_call(alloc, front, call, is_commuting)? {
+        return Ok(None);
+    }
+    let (_, rest) = behind.split_at(1);
+    Ok(Some(rest))
+}
+
+/// How many pieces there are before the one that ends what is open before them, where its power is 1.
+fn closing_once(pieces: &[Piece]) -> Option<usize>
+    ensures { IfSome result (λ len. closing_at 0 0 pieces.now ≡ Some (len, ends.Power 1)) }
+{
+    match closing(pieces) {
+        Some((len, Ended::Power(1))) => Some(len),
+        _ => None,
+    }
+}
+
+fn take_call(
+    alloc: Global,
+    front: &mut Monomial,
+    call: Call,
+    is_commuting: bool,
+) -> Result<bool, AllocError>
+    ensures { result ≡ Ok true → IsTimes (list_of_call is_commuting call) front.old front.new }
+{
+    let old = mem::replace(front, Monomial::unit(alloc));
+    match with_call(alloc, old, call, is_commuting)? {
+        Some(term) => {
+            *front = term;
+            Ok(true)
+        }
+        None => Ok(false),
+    }
+}
+
+/// A term times a function.
+fn with_call(
+    alloc: Global,
+    front: Monomial,
+    call: Call,
+    is_commuting: bool,
+) -> Result<Option<Monomial>, AllocError>
+    ensures { IfOk result (λ made. IfSome made (λ term. IsTimes (list_of_call is_commuting call) front term)) }
+{
+    if is_commuting {
+        times_function(alloc, front, call)
+    } else {
+        times_word(alloc, front, call)
     }
 }
 
@@ -98,26 +277,4 @@ fn made(answer: Result<bool, ProductError>) -> Result<bool, AllocError>
         Err(ProductError::Refused(_)) => Ok(false),
         Err(ProductError::Memory) => Err(AllocError),
     }
-}
-
-/// Reads the product that these pieces begin with, where it has numbers and symbols alone and is a term. Answers it,
-/// and how many pieces it has.
-pub fn read_literal(alloc: Global, pieces: &[Piece]) -> Result<Option<(Literal, usize)>, AllocError>
-    requires { 0 < length pieces.now }
-    ensures { IfOk result (λ found. IfSome found (λ read. (max : ℕ) (all : Meanings) →
-        IsLiteral max all pieces.now read.0 read.1)) }
-{
-    let mut literal = Literal {
-        is_minus: false,
-        term: Monomial::unit(alloc),
-    };
-    for (read, piece) in pieces.iter().enumerate() {
-        if read > 0 && begins(piece) {
-            return Ok(Some((literal, read)));
-        }
-        if !literal.take(alloc, piece)? {
-            return Ok(None);
-        }
-    }
-    Ok(Some((literal, pieces.len())))
 }

@@ -54,7 +54,7 @@ pub fn read_product<'a>(
 }
 
 /// Whether the product that begins with this piece is subtracted.
-fn is_subtracted(piece: &Piece) -> bool
+pub fn is_subtracted(piece: &Piece) -> bool
     ensures { result ≡ is_minus_piece piece.now }
 {
     match piece {
@@ -179,7 +179,7 @@ fn piece_list<'a>(
     ensures { IfOk result (λ found. listed_alone found ≡ list_of_piece stored.now piece.now) }
 {
     let found = match piece {
-        Piece::Number { value, power, .. } => (number_list(alloc, *value, *power), 1),
+        Piece::Number { value, power, .. } => (number_list(alloc, value.get(), *power), 1),
         Piece::Symbol { symbol, power, .. } => (symbol_list(alloc, *symbol, *power)?, 1),
         Piece::Wild {
             symbol,

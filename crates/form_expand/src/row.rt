@@ -1,10 +1,13 @@
 //! A row of lists that are paired from the left: a term, and behind it lists of several kinds.
-ghost use Rattle.std.specs.Prelude.{◌≡◌, ◌∷◌, IfOk, map};
+ghost use Rattle.std.specs.Prelude.{◌≡◌, ◌∷◌, [], ℕ, IfOk, map};
+ghost use Rattle.std.specs.Bool.{OnTrue};
 ghost use Rattle.form_expand.specs.Factors.{factor_whole};
 ghost use Rattle.form_expand.specs.Left.{row};
-ghost use Rattle.form_expand.specs.Listing.{limited, single};
+ghost use Rattle.form_expand.specs.Listing.{limited, nothing, single};
 ghost use Rattle.form_expand.specs.Next.{Gives};
 ghost use Rattle.form_expand.specs.Parts.{part_list};
+ghost use Rattle.form_expand.specs.Products.{product_left};
+ghost use Rattle.form_expand.specs.RowLists.{lists_left, pair_left};
 
 use crate::ExpandError;
 use crate::factor::Factor;
@@ -48,11 +51,119 @@ impl<'a> Part<'a> {
     }
 }
 
+/// A term, and a list behind it that is there as a whole.
+#[derive(Drop)]
+pub struct Pair<'a> {
+    pub left: Option<Monomial>,
+    pub walk: Walk<'a>,
+}
+
+impl Pair<'_> {
+    fn next(&mut self, alloc: Global, limit: u64) -> Result<Option<Monomial>, ExpandError>
+        ensures { Gives result (pair_left limit self.old) (pair_left limit self.new) }
+    {
+        self.walk.next_times(alloc, limit, &self.left)
+    }
+
+    /// Whether there surely is no further term.
+    fn is_spent(&self) -> bool
+        ensures { OnTrue result ((max : ℕ) → pair_left max self.now ≡ nothing) }
+    {
+        self.walk.is_spent()
+    }
+}
+
+/// The lists of a row.
+#[derive(Drop)]
+pub enum Lists<'a> {
+    /// A term and one list, as nearly every match makes them.
+    Two(Pair<'a>),
+    Several(Product<'a>),
+}
+
+impl<'a> Lists<'a> {
+    /// A term, and one list behind it.
+    fn pair(
+        alloc: Global,
+        limit: u64,
+        first: Monomial,
+        factor: Factor<'a>,
+    ) -> Result<Lists<'a>, AllocError>
+        ensures { IfOk result (λ lists. lists_left limit lists ≡ row limit (single first ∷ factor_whole limit factor.entry ∷ [])) }
+    {
+        if limit == 0 {
+            return Ok(Lists::Several(product_of_two(alloc, limit, first, factor)?));
+        }
+        match factor {
+            Factor::Once(walk) => {
+                let mut walk = walk;
+                walk.restart();
+                let left = Some(first);
+                Ok(Lists::Two(Pair { left, walk }))
+            }
+            other => Ok(Lists::Several(product_of_two(alloc, limit, first, other)?)),
+        }
+    }
+
+    fn next(&mut self, alloc: Global, limit: u64) -> Result<Option<Monomial>, ExpandError>
+        ensures { Gives result (lists_left limit self.old) (lists_left limit self.new) }
+    {
+        match self {
+            Lists::Two(pair) => pair.next(alloc, limit),
+            Lists::Several(product) => product.next(alloc, limit, u64::MAX),
+        }
+    }
+
+    /// Whether there surely is no further term.
+    fn is_spent(&self) -> bool
+        ensures { OnTrue result ((max : ℕ) → lists_left max self.now ≡ nothing) }
+    {
+        match self {
+            Lists::Two(pair) => pair.is_spent(),
+            Lists::Several(_) => false,
+        }
+    }
+}
+
+/// A term times a list.
+fn product_of_two<'a>(
+    alloc: Global,
+    limit: u64,
+    first: Monomial,
+    second: Factor<'a>,
+) -> Result<Product<'a>, AllocError>
+    ensures { IfOk result (λ product. product_left limit product ≡ row limit (single first ∷ factor_whole limit second.entry ∷ [])) }
+{
+    let mut factors = Vec::new(alloc);
+    factors.push(Factor::Once(Walk::new(Whole::single(first))))?;
+    factors.push(second)?;
+    let product = Product::new(alloc, factors)?;
+    Ok(product)
+}
+
+/// A term times several lists.
+fn product_of_parts<'a>(
+    alloc: Global,
+    limit: u64,
+    first: Monomial,
+    parts: Vec<Part<'a>>,
+) -> Result<Product<'a>, AllocError>
+    ensures { IfOk result (λ product. product_left limit product ≡ row limit (single first ∷ map (part_list limit) parts.entry.items)) }
+{
+    let mut factors = Vec::new(alloc);
+    factors.push(Factor::Once(Walk::new(Whole::single(first))))?;
+    for part in parts {
+        factors.push(part.into_factor(alloc, limit)?)?;
+    }
+    let product = Product::new(alloc, factors)?;
+    Ok(product)
+}
+
 /// Lists that are paired from the left, whose terms are made one by one as they are asked for: in a clause what is left.
 #[derive(Drop)]
 pub struct Row<'a> {
     limit: u64,
-    product: Product<'a>,
+    lists: Lists<'a>,
 }
 
 impl<'a> Model for Row<'a> {
@@ -60,9 +171,9 @@ impl<'a> Model for Row<'a> {
 
     ghost Value = { Listing };
 
-    ghost use Rattle.form_expand.specs.Products.{product_left};
+    ghost use Rattle.form_expand.specs.RowLists.{lists_left};
 
-    ghost view = { λ r. product_left r.limit r.product };
+    ghost view = { λ r. lists_left r.limit r.lists };
 }
 
 impl<'a> Row<'a> {
@@ -75,19 +186,35 @@ impl<'a> Row<'a> {
     ) -> Result<Row<'a>, AllocError>
         ensures { IfOk result (λ made. made ≡ row limit (single first ∷ map (part_list limit) parts.entry.items)) }
     {
-        let mut factors = Vec::new(alloc);
-        factors.push(Factor::Once(Walk::new(Whole::single(first))))?;
-        for part in parts {
-            factors.push(part.into_factor(alloc, limit)?)?;
-        }
-        let product = Product::new(alloc, factors)?;
-        Ok(Row { limit, product })
+        let lists = Lists::Several(product_of_parts(alloc, limit, first, parts)?);
+        Ok(Row { limit, lists })
+    }
+
+    /// A term, and one list behind it.
+    pub fn pair(
+        alloc: Global,
+        limit: u64,
+        first: Monomial,
+        part: Part<'a>,
+    ) -> Result<Row<'a>, AllocError>
+        ensures { IfOk result (λ made. made ≡ row limit (single first ∷ part_list limit part.entry ∷ [])) }
+    {
+        let factor = part.into_factor(alloc, limit)?;
+        let lists = Lists::pair(alloc, limit, first, factor)?;
+        Ok(Row { limit, lists })
     }
 
     /// The next term. The first refusal ends the list; once it or want of memory was answered it isn't asked again.
     pub fn next(&mut self, alloc: Global) -> Result<Option<Monomial>, ExpandError>
         ensures { Gives result self.old self.new }
     {
-        self.product.next(alloc, self.limit, u64::MAX)
+        self.lists.next(alloc, self.limit)
+    }
+
+    /// Whether there surely is no further term.
+    pub fn is_spent(&self) -> bool
+        ensures { OnTrue result (self.now ≡ nothing) }
+    {
+        self.lists.is_spent()
     }
 }

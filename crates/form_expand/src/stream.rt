@@ -8,7 +8,7 @@ ghost use Rattle.form_expand.specs.Reading.{list_of_pieces};
 ghost use Rattle.form_expand.specs.Streams.{stream_left, stream_before};
 
 use crate::ExpandError;
-use crate::literal::read_literal;
+use crate::literal::{DEEPEST, read_literal};
 use crate::product::Product;
 use crate::reader::read_product;
 use crate::stored::Standing;
@@ -102,18 +102,18 @@ impl<'a> Stream<'a> {
         Ok(Some(signed(self.is_minus, term)))
     }
 
-    /// Reads the next product, where the one at hand is done and the next is one of numbers and symbols: its term.
+    /// Reads the next product, where the one at hand is done and the next is one term: that.
     fn read_term(&mut self, alloc: Global) -> Result<Option<Monomial>, AllocError>
         requires done { product_left self.old.limit self.old.product ≡ nothing }
         requires some { 0 < length self.old.rest.now }
         ensures found { IfOk result (λ found. IfSome found (λ term. stream_before term self.new ≡ stream_left self.old)) }
         ensures none { result ≡ Ok None → self.new ≡ self.old }
     {
-        let Some((literal, read)) = read_literal(alloc, self.rest)? else {
+        let read = read_literal(alloc, self.rest, self.stored, self.limit, DEEPEST)?;
+        let Some((literal, rest)) = read else {
             return Ok(None);
         };
         self.is_minus = literal.is_minus;
-        let (_, rest) = self.rest.split_at(read);
         self.rest = rest;
         Ok(Some(literal.term))
     }

@@ -1,21 +1,24 @@
 -- What is left of a term while parts take from it.
 use Rattle.std.proofs.Common.{◌≡◌, true≢false, ℕ, ◌+◌, ◌<◌, ◌≤◌, drop, get_or, length, option_map, arith, Bool, true, false, cond, List, [], ◌∷◌, ◌++◌, Option, Some, None, fold, map, refl, sym, ap, subst, ◌∙◌}
-use Rattle.std.specs.Prelude.{slice_get}
+use Rattle.std.specs.Prelude.{All, slice_get}
 use Rattle.std.proofs.lemmas.List.{length-map}
+use Rattle.std.proofs.lemmas.List.Elements.{recursion_from_All}
 use Rattle.std.proofs.lemmas.Option.{slice_get-map, slice_get_read}
 use Rattle.form_tree.specs.Pattern.{Factors, pieces_of_factors}
 use Rattle.form_tree.specs.Tree.{Sum}
 use Rattle.form_term.specs.Term.{Term}
 use Rattle.form_term.specs.declared.monomial.Monomial.{Monomial}
 use Rattle.form_rewrite.specs.declared.taken.Taken.{Taken}
-use Rattle.form_rewrite.specs.Taking.{take_out}
-use Rattle.form_expand.specs.Listing.{Listing}
+use Rattle.form_match.specs.Values.{Binding}
+use Rattle.form_rewrite.specs.Taking.{take_out, taken_so_far}
+use Rattle.form_expand.specs.Left.{row}
+use Rattle.form_expand.specs.Listing.{Listing, single}
 use Rattle.form_expand.specs.Parts.{part_list}
 use Rattle.form_flow.specs.Applied.{IsApplied}
 use Rattle.form_flow.specs.Parts.{ArePartsOf, IsPart}
 use Rattle.form_flow.specs.Ready.{IsReady, rewriting_of}
 use Rattle.form_flow.specs.Rests.{cut_list, rest_in}
-use Rattle.form_flow.specs.Rewriting.{Part, Rest, and_part, and_taken, list_of_rest, rest_of, rewritten, table_of, untouched}
+use Rattle.form_flow.specs.Rewriting.{Part, Rest, and_part, and_taken, list_of_rest, rest_of, rewritten, right_with, table_of, untouched}
 use Rattle.form_flow.proofs.Zips.{zip_end, zip_next}
 use Rattle.form_flow.specs.declared.compiled.CompiledPart.{CompiledPart}
 use Rattle.form_flow.specs.declared.rest.Remaining.{Remaining}
@@ -59,29 +62,69 @@ unmatched max r (p ∷ ps) h =
         absurd (true≢false (sym stays ∙ h))
 
 -- a term as it was
-pub stays_same : (max : ℕ) (ps : List Part) (m : Monomial) (r : Remaining) → rest_in r ≡ rest_of max ps m.term → r.has_matched ≡ false
-    → IsApplied m (rewritten max ps m) (Unchanged (record { coefficient = m.coefficient; term = r.left }))
+pub stays_same : (max : ℕ) (ps : List Part) (m : Monomial) (r : Remaining) (same : Monomial) → rest_in r ≡ rest_of max ps m.term → r.has_matched ≡ false
+    → m.coefficient ≡ same.coefficient → r.left ≡ same.term → IsApplied m (rewritten max ps m) (Unchanged same)
 unfolding rewritten
-stays_same max ps m r is none =
+stays_same max ps m r same is none number left =
     let test : (rest_of max ps m.term).has_matched ≡ false = ap (λ x. x.has_matched) (sym is) ∙ none in
-    let same : r.left ≡ m.term = ap (λ x. x.left) (is ∙ unmatched max (untouched m.term) ps test) in
-    subst (λ (b : Bool). IsApplied m (cond b (Some (list_of_rest max m (rest_of max ps m.term))) None) (Unchanged (record { coefficient = m.coefficient; term = r.left })))
-    (sym test) (ap (λ t. record { coefficient = m.coefficient; term = t }) same)
+    let kept : r.left ≡ m.term = ap (λ x. x.left) (is ∙ unmatched max (untouched m.term) ps test) in
+    subst (λ (b : Bool). IsApplied m (cond b (Some (list_of_rest max m (rest_of max ps m.term))) None) (Unchanged same))
+    (sym test) (ap (λ n. record { coefficient = n; term = same.term }) (sym number) ∙ ap (λ t. record { coefficient = m.coefficient; term = t }) (sym left ∙ kept))
 
 -- the row of what is left and what is put in
-pub is_put : (max : ℕ) (ps : List Part) (m : Monomial) (r : Remaining) (l : Listing) → r.limit ≡ max → rest_in r ≡ rest_of max ps m.term → r.has_matched ≡ true
-    → l ≡ list_of_rest max (record { coefficient = m.coefficient; term = r.left })
-    (record { left = r.left; cuts = map (cut_list max) r.between.items; behind = map (part_list max) r.behind.items; has_matched = true })
+pub is_put : (max : ℕ) (ps : List Part) (m first : Monomial) (r : Remaining) (l : Listing) → r.limit ≡ max → rest_in r ≡ rest_of max ps m.term → r.has_matched ≡ true
+    → m.coefficient ≡ first.coefficient → r.left ≡ first.term
+    → l ≡ list_of_rest max first (record { left = first.term; cuts = map (cut_list max) r.between.items; behind = map (part_list max) r.behind.items; has_matched = true })
     → IsApplied m (rewritten max ps m) (Put l)
 unfolding rewritten
-is_put max ps m r l within is matched made =
+is_put max ps m first r l within is matched number left made =
     let test : (rest_of max ps m.term).has_matched ≡ true = ap (λ x. x.has_matched) (sym is) ∙ matched in
     let same : record { left = r.left; cuts = map (cut_list max) r.between.items; behind = map (part_list max) r.behind.items; has_matched = true } ≡ rest_of max ps m.term =
     ap (λ n. record { left = r.left; cuts = map (cut_list n) r.between.items; behind = map (part_list n) r.behind.items; has_matched = true }) (sym within)
     ∙ ap (λ b. record { left = r.left; cuts = map (cut_list r.limit) r.between.items; behind = map (part_list r.limit) r.behind.items; has_matched = b }) (sym matched)
     ∙ is in
     subst (λ (b : Bool). IsApplied m (cond b (Some (list_of_rest max m (rest_of max ps m.term))) None) (Put l))
-    (sym test) (made ∙ ap (list_of_rest max m) same)
+    (sym test)
+    (made
+    ∙ ap (λ t. list_of_rest max first (record { left = t; cuts = map (cut_list max) r.between.items; behind = map (part_list max) r.behind.items; has_matched = true })) (sym left)
+    ∙ ap (list_of_rest max first) same
+    ∙ ap (λ c. list_of_rest max (record { coefficient = c; term = first.term }) (rest_of max ps m.term)) (sym number))
+
+-- a part alone that doesn't match
+pub one_unmatched : (max : ℕ) (p : Part) (m : Monomial) → untouched m.term ≡ and_part max (untouched m.term) p → IsApplied m (rewritten max (p ∷ []) m) (Unchanged m)
+unfolding rewritten
+one_unmatched max p m is = subst (λ (r : Rest). IsApplied m (cond r.has_matched (Some (list_of_rest max m r)) None) (Unchanged m)) is refl
+
+-- a part alone that matches once
+pub one_matched : (max : ℕ) (p : Part) (m : Monomial) (left : Term) (bs : List Binding) (l : Listing)
+    → and_taken max p.right (untouched m.term) (Some (taken_so_far left [] (bs ∷ []) 1)) ≡ and_part max (untouched m.term) p
+    → l ≡ row max (single (record { coefficient = m.coefficient; term = left }) ∷ right_with max p.right bs ∷ []) → IsApplied m (rewritten max (p ∷ []) m) (Put l)
+unfolding rewritten
+one_matched max p m left bs l is made = subst (λ (r : Rest). IsApplied m (cond r.has_matched (Some (list_of_rest max m r)) None) (Put l)) is made
+
+-- and that is taken from by all that a match takes
+pub one_taken : (max : ℕ) (p : Part) (m : Monomial) (before after : Remaining) (x : Taken) → rest_in before ≡ untouched m.term → before.limit ≡ max → after.limit ≡ before.limit
+    → rest_in after ≡ and_taken before.limit p.right (rest_in before) (Some x) → and_taken max p.right (untouched m.term) (Some x) ≡ and_part max (untouched m.term) p
+    → rest_in after ≡ rest_of after.limit (p ∷ []) m.term
+one_taken max p m before after x none within same is takes =
+    is
+    ∙ ap (λ n. and_taken n p.right (rest_in before) (Some x)) within
+    ∙ ap (λ r. and_taken max p.right r (Some x)) none
+    ∙ takes
+    ∙ ap (λ n. and_part n (untouched m.term) p) (sym (same ∙ within))
+
+-- a group of one part, by its trees
+pub alone : (parts : List CompiledPart) (part : CompiledPart) (ps : List Part) → ArePartsOf (map rewriting_of parts) ps → length parts ≡ 1 → part ≡ get_or parts 0 part
+    → (p : Part) × (ps ≡ p ∷ []) × IsPart (rewriting_of part) p
+alone parts part ps are one is =
+    let here : slice_get (map rewriting_of parts) 0 ≡ Some (rewriting_of part) =
+    slice_get-map rewriting_of parts 0 ∙ ap (option_map rewriting_of) (slice_get_read parts (length parts) 0 part refl (omega (arith, one)) is) in
+    let p = zip_next IsPart (map rewriting_of parts) ps 0 (rewriting_of part) are here in
+    (p.0, p.1 ∙ ap (λ qs. p.0 ∷ qs) (zip_end IsPart (map rewriting_of parts) ps 1 are (omega (arith, length-map parts rewriting_of, one))), p.2)
+
+pub ready_alone : (max : ℕ) (parts : List CompiledPart) (part : CompiledPart) → All (IsReady max) parts → length parts ≡ 1 → part ≡ get_or parts 0 part → IsReady max part
+ready_alone max [] part h one is = absurd (omega (arith, one))
+ready_alone max (x ∷ xs) part h one is = subst (IsReady max) (sym is) ((recursion_from_All (IsReady max) (x ∷ xs) h).0)
 
 -- one part more
 pub next_part : (max : ℕ) (parts : List CompiledPart) (ps : List Part) (i : ℕ) (part : CompiledPart) (r next all : Rest)

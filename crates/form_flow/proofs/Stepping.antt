@@ -10,7 +10,7 @@ use Rattle.form_expand.specs.Listing.{Listing, nothing, single, refusal, before,
 use Rattle.form_expand.specs.Next.{Gives}
 use Rattle.form_flow.specs.Applied.{IsApplied}
 use Rattle.form_flow.specs.declared.rest.Applied.TheVariants.{Unchanged, Put}
-use Rattle.form_flow.specs.Left.{Steps, and_outer, left_in, left_of_frame, left_of_frames, left_waiting, on_its_way}
+use Rattle.form_flow.specs.Left.{Steps, and_outer, frame_of, left_in, left_of_frame, left_of_frames, left_waiting, left_with, on_its_way}
 use Rattle.form_flow.specs.Rewriting.{Part, carried, going_on, outputs, rewritten, through, through_each}
 use Rattle.form_flow.specs.declared.outputs.Frame.{Frame}
 use Rattle.form_flow.specs.declared.outputs.State.{State}
@@ -60,6 +60,13 @@ module _ (laws : Laws) (limits : Limits) (go : Monomial → Listing) (k : ℕ) (
       ap (limited k)
       (sym (laws.associative (go m) (through go next) rest)
       ∙ sym (ap (λ x. followed x rest) (ap (through go) is ∙ through_before go m next)))
+
+  -- and where that was the last
+  pub row_gives_last : (m : Monomial) (l next : Listing) → l ≡ before m next → next ≡ nothing
+      → limited k (followed (go m) rest) ≡ limited k (followed (through go l) rest)
+  row_gives_last m l next is none =
+      ap (λ x. limited k (followed (go m) x)) (sym (ap (λ x. followed x rest) (ap (through go) none ∙ through_nothing go) ∙ laws.first rest))
+      ∙ row_gives m l next is
 
   pub row_ends : (l : Listing) → l ≡ nothing → limited k rest ≡ limited k (followed (through go l) rest)
   row_ends l is = ap (limited k) (sym (ap (λ x. followed x rest) (ap (through go) is ∙ through_nothing go) ∙ laws.first rest))
@@ -129,30 +136,32 @@ no_more limits max s now pss none empty still = (
   left_none max (record { given = s.given; waiting = s.waiting; frames = now }) pss none ∙ ap (limited (max - s.given)) (no_frame max pss now.items still) ∙ limits.none (max - s.given),
 )
 
-module _ (laws : Laws) (limits : Limits) (max : ℕ) (s : State) (pss : List (List Part)) (none : s.waiting ≡ None) (fs : List Frame) (f : Frame) (last : s.frames.items ≡ fs ++ f ∷ []) where
-  open_frame : left_in max s pss ≡ limited (max - s.given) (followed (left_of_frame max pss f) (left_of_frames max pss fs))
-  open_frame = left_none max s pss none ∙ ap (limited (max - s.given)) (one_frame max pss fs s.frames.items f last)
+-- the innermost frame is taken off
+pub open_frame : (max : ℕ) (s : State) (pss : List (List Part)) (popped : Vec Frame Global) (f : Frame) → s.waiting ≡ None → s.frames.items ≡ popped.items ++ f ∷ []
+    → left_in max s pss ≡ left_with max f (record { given = s.given; waiting = s.waiting; frames = popped }) pss
+open_frame max s pss popped f none last = left_none max s pss none ∙ ap (limited (max - s.given)) (one_frame max pss popped.items s.frames.items f last)
 
-  pub row_on : (m : Monomial) (next : Listing) (pushed : Vec Frame Global) → f.row ≡ before m next → pushed.items ≡ fs ++ (record { row = next; behind = f.behind }) ∷ []
-      → left_in max (record { given = s.given; waiting = Some (record { item = m; behind = f.behind }); frames = pushed }) pss ≡ left_in max s pss
+-- the row of a statement that acted, beside those before it
+module _ (laws : Laws) (limits : Limits) (max : ℕ) (s : State) (pss : List (List Part)) (none : s.waiting ≡ None) (f : Frame) where
+  pub row_on : (m : Monomial) (next : Listing) (pushed : Vec Frame Global) → f.row ≡ before m next → pushed.items ≡ s.frames.items ++ (record { row = next; behind = f.behind }) ∷ []
+      → left_in max (record { given = s.given; waiting = Some (record { item = m; behind = f.behind }); frames = pushed }) pss ≡ left_with max f s pss
   unfolding left_in
   row_on m next pushed is put =
-      ap (λ x. limited (max - s.given) (followed (carried max (drop f.behind pss) m) x)) (one_frame max pss fs pushed.items (record { row = next; behind = f.behind }) put)
-      ∙ row_gives laws limits (carried max (drop f.behind pss)) (max - s.given) (left_of_frames max pss fs) m f.row next is
-      ∙ sym open_frame
+      ap (λ x. limited (max - s.given) (followed (carried max (drop f.behind pss) m) x)) (one_frame max pss s.frames.items pushed.items (record { row = next; behind = f.behind }) put)
+      ∙ row_gives laws limits (carried max (drop f.behind pss)) (max - s.given) (left_of_frames max pss s.frames.items) m f.row next is
 
-  pub row_off : (popped : Vec Frame Global) → f.row ≡ nothing → popped.items ≡ fs
-      → left_in max (record { given = s.given; waiting = s.waiting; frames = popped }) pss ≡ left_in max s pss
-  row_off popped is rest =
-      left_none max (record { given = s.given; waiting = s.waiting; frames = popped }) pss none
-      ∙ ap (λ gs. limited (max - s.given) (left_of_frames max pss gs)) rest
-      ∙ row_ends laws limits (carried max (drop f.behind pss)) (max - s.given) (left_of_frames max pss fs) f.row is
-      ∙ sym open_frame
+  pub row_last : (m : Monomial) (next : Listing) → f.row ≡ before m next → next ≡ nothing
+      → left_in max (record { given = s.given; waiting = Some (record { item = m; behind = f.behind }); frames = s.frames }) pss ≡ left_with max f s pss
+  unfolding left_in
+  row_last m next is done = row_gives_last laws limits (carried max (drop f.behind pss)) (max - s.given) (left_of_frames max pss s.frames.items) m f.row next is done
 
-  pub row_err : (next new : Listing) (error : ExpandError) → Gives (Err error) f.row next → Steps (Err error) (left_in max s pss) new
-  row_err next new error is =
-      subst (λ (l : Listing). Steps (Err error) l new) (sym open_frame)
-      (row_fails laws limits (carried max (drop f.behind pss)) (max - s.given) (left_of_frames max pss fs) f.row next new error is)
+  pub row_off : f.row ≡ nothing → left_in max s pss ≡ left_with max f s pss
+  row_off is =
+      left_none max s pss none
+      ∙ row_ends laws limits (carried max (drop f.behind pss)) (max - s.given) (left_of_frames max pss s.frames.items) f.row is
+
+  pub row_err : (next new : Listing) (error : ExpandError) → Gives (Err error) f.row next → Steps (Err error) (left_with max f s pss) new
+  row_err next new error is = row_fails laws limits (carried max (drop f.behind pss)) (max - s.given) (left_of_frames max pss s.frames.items) f.row next new error is
 
 -- ---- a term goes through the next statement
 
@@ -167,14 +176,12 @@ unfolding left_in
 goes_past max s w pss ps here none =
     ap (λ x. limited (max - s.given) (followed x (left_of_frames max pss s.frames.items))) (sym (not_acted max w.item (drop w.behind pss) (drop (w.behind + 1) pss) ps here none))
 
-pub goes_into : (max : ℕ) (s : State) (w : Waiting) (pss : List (List Part)) (ps : List Part) (l : Listing) (pushed : Vec Frame Global)
-    → s.waiting ≡ None → drop w.behind pss ≡ ps ∷ drop (w.behind + 1) pss → rewritten max ps w.item ≡ Some l → pushed.items ≡ s.frames.items ++ (record { row = l; behind = w.behind + 1 }) ∷ []
-    → left_in max (record { given = s.given; waiting = s.waiting; frames = pushed }) pss ≡ left_in max (on_its_way w s) pss
+pub goes_into : (max : ℕ) (s : State) (w : Waiting) (pss : List (List Part)) (ps : List Part) (l : Listing)
+    → drop w.behind pss ≡ ps ∷ drop (w.behind + 1) pss → rewritten max ps w.item ≡ Some l
+    → left_with max (frame_of l (w.behind + 1)) s pss ≡ left_in max (on_its_way w s) pss
 unfolding left_in
-goes_into max s w pss ps l pushed none here some put =
-    left_none max (record { given = s.given; waiting = s.waiting; frames = pushed }) pss none
-    ∙ ap (limited (max - s.given)) (one_frame max pss s.frames.items pushed.items (record { row = l; behind = w.behind + 1 }) put)
-    ∙ ap (λ x. limited (max - s.given) (followed x (left_of_frames max pss s.frames.items))) (sym (acted max w.item (drop w.behind pss) (drop (w.behind + 1) pss) ps l here some))
+goes_into max s w pss ps l here some =
+    ap (λ x. limited (max - s.given) (followed x (left_of_frames max pss s.frames.items))) (sym (acted max w.item (drop w.behind pss) (drop (w.behind + 1) pss) ps l here some))
 
 pub unchanged_none : (m same : Monomial) (o : Option Listing) → IsApplied m o (Unchanged same) → (o ≡ None) × (same ≡ m)
 unchanged_none m same None h = (refl, h)

@@ -43,6 +43,13 @@ outputs_left o pss = left_in o.compiled.now.limit o.state pss
 abbrev pub on_its_way : Waiting → State → State
 on_its_way w s = record { given = s.given; waiting = Some w; frames = s.frames }
 
+-- the same with a further statement that acted, the innermost, in place of a term
+abbrev pub frame_of : Listing → ℕ → Frame
+frame_of row behind = record { row = row; behind = behind }
+
+abbrev pub left_with : ℕ → Frame → State → List (List Part) → Listing
+left_with max f s pss = limited (max - s.given) (and_outer max pss (left_of_frames max pss s.frames.items) f)
+
 -- a step towards the next output
 abbrev pub Steps : Result Step ExpandError → Listing → Listing → Type 0
 Steps (Ok Moves) old new = new ≡ old

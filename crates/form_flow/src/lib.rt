@@ -15,6 +15,3 @@ mod words;
 pub use carry::{Emit, End, Go};
 pub use compiled::CompiledModule;
 pub use outputs::Outputs;
-
-#[cfg(test)]
-mod tests;

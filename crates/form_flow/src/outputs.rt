@@ -1,8 +1,8 @@
 //! The outputs of a term, depth first.
-ghost use Rattle.std.specs.Prelude.{◌≡◌, ◌-◌, List, None};
+ghost use Rattle.std.specs.Prelude.{◌≡◌, ◌-◌, ℕ, List, None};
 ghost use Rattle.form_expand.specs.Listing.{before, limited};
 ghost use Rattle.form_expand.specs.Next.{Gives as GivesNext};
-ghost use Rattle.form_flow.specs.Left.{Steps, groups_in, left_in, left_of_frames, on_its_way, outputs_left};
+ghost use Rattle.form_flow.specs.Left.{Steps, frame_of, groups_in, left_in, left_of_frames, left_with, on_its_way, outputs_left};
 ghost use Rattle.form_flow.specs.Parts.{AreParts};
 ghost use Rattle.form_flow.specs.Rewriting.{Part as AsTrees, outputs as outputs_of};
 
@@ -141,8 +141,7 @@ fn go_on<'a>(
         }
         Applied::Put(row) => {
             let after = behind + 1;
-            state.frames.push(Frame { row, behind: after })?;
-            Ok(Step::Moves)
+            next_of_row(alloc, row, after, state)
         }
     }
 }
@@ -168,17 +167,36 @@ fn next_of_frame(alloc: Global, limit: u64, state: &mut State<'_>) -> Result<Ste
     requires { state.old.waiting ≡ None }
     ensures { (pss : List (List AsTrees)) → Steps result (left_in limit state.old pss) (left_in limit state.new pss) }
 {
-    laws::following_lists();
     laws::limited_lists();
     let Some(frame) = state.frames.pop() else {
         return Ok(Step::Done);
     };
     let Frame { row, behind } = frame;
+    next_of_row(alloc, row, behind, state)
+}
+
+/// The next term of the row of a statement that acted. The row is kept where there may be another one behind it.
+#[tactic(none)]
+fn next_of_row<'a>(
+    alloc: Global,
+    row: Row<'a>,
+    behind: usize,
+    state: &mut State<'a>,
+) -> Result<Step, ExpandError>
+    requires { state.old.waiting ≡ None }
+    ensures { (max : ℕ) (pss : List (List AsTrees)) →
+        Steps result (left_with max (frame_of row.entry behind) state.old pss) (left_in max state.new pss) }
+{
+    laws::following_lists();
+    laws::limited_lists();
     let mut row = row;
     match row.next(alloc) {
         Ok(Some(item)) => {
-            state.frames.push(Frame { row, behind })?;
             state.waiting = Some(Waiting { item, behind });
+            if row.is_spent() {
+                return Ok(Step::Moves);
+            }
+            state.frames.push(Frame { row, behind })?;
             Ok(Step::Moves)
         }
         Ok(None) => Ok(Step::Moves),

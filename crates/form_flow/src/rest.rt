@@ -1,8 +1,11 @@
 //! What is left of a term while the parts of a statement take from it, and the row that comes of that.
-ghost use Rattle.std.specs.Prelude.{◌≡◌, ◌++◌, IfOk, List, Some, flat_map, map, replicate};
+ghost use Rattle.std.specs.Prelude.{◌≡◌, ◌++◌, ◌∷◌, [], IfOk, List, Some, flat_map, map, replicate};
 ghost use Rattle.std.specs.List.{AllZip};
+ghost use Rattle.form_term.specs.declared.monomial.Monomial.{Monomial as Item};
 ghost use Rattle.form_tree.specs.Tree.{Sum, pieces_of_sum};
 ghost use Rattle.form_expand.specs.Expanding.{list_of_sum};
+ghost use Rattle.form_expand.specs.Left.{row};
+ghost use Rattle.form_expand.specs.Listing.{single};
 ghost use Rattle.form_expand.specs.Meanings.{bound_to, no_meanings};
 ghost use Rattle.form_expand.specs.Parts.{part_list};
 ghost use Rattle.form_flow.specs.Applied.{IsApplied};
@@ -14,6 +17,7 @@ ghost use Rattle.form_flow.specs.Rewriting.{Part as AsTrees, and_part as and_par
 use crate::between::{Inserted, all_bound, is_any_by_match, places, put_between, row_of};
 use crate::compiled::{CompiledPart, Group};
 use form_expand::{Part, Row, Standing, laws, whole_list};
+use form_frac::Frac;
 use form_match::Bindings;
 use form_rewrite::{Taken, take_out};
 use form_term::{Monomial, Term};
@@ -39,7 +43,6 @@ pub enum Applied<'a> {
 }
 
 /// What a statement makes of a term.
-#[tactic(auto, unfolding(crate::specs::Rewriting::rewritten))]
 pub fn rewritten<'a>(
     alloc: Global,
     limit: u64,
@@ -52,10 +55,25 @@ pub fn rewritten<'a>(
     ensures { (ps : List AsTrees) → ArePartsOf (rewritings_of group.now) ps →
         IfOk result (λ applied. IsApplied item (rewritten_of limit ps item) applied) }
 {
+    if let [part] = group.parts.as_slice() {
+        return by_one(alloc, limit, part, nothing, item);
+    }
     let Monomial { coefficient, term } = item;
     let rest = rest(alloc, limit, group, nothing, term)?;
+    put_together(alloc, coefficient, rest)
+}
+
+/// What comes of what is left: the term as it was, where no part matched, and else the row of that and what is put in.
+fn put_together<'a>(
+    alloc: Global,
+    coefficient: Frac,
+    rest: Remaining<'a>,
+) -> Result<Applied<'a>, AllocError>
+    ensures { (ps : List AsTrees) (m : Item) → m.coefficient ≡ coefficient → rest_in rest.entry ≡ rest_of rest.entry.limit ps m.term →
+        IfOk result (λ applied. IsApplied m (rewritten_of rest.entry.limit ps m) applied) }
+{
     let Remaining {
-        limit: _,
+        limit,
         left,
         between,
         behind,
@@ -72,6 +90,75 @@ pub fn rewritten<'a>(
     Ok(Applied::Put(row))
 }
 
+/// What a part that has no `also` beside it makes of a term.
+fn by_one<'a>(
+    alloc: Global,
+    limit: u64,
+    part: &'a CompiledPart<'a>,
+    nothing: &'a Standing,
+    item: Monomial,
+) -> Result<Applied<'a>, AllocError>
+    requires ready { IsReady limit part.now }
+    requires nothing { nothing.now ≡ no_meanings }
+    ensures { (p : AsTrees) → IsPart (rewriting_of part.now) p →
+        IfOk result (λ applied. IsApplied item (rewritten_of limit (p ∷ []) item) applied) }
+{
+    let option = part.rewriting.option;
+    let Some(taken) = take_out(alloc, &item.term, &[], &part.pattern, option)? else {
+        return Ok(Applied::Unchanged(item));
+    };
+    let right = part.rewriting.right.as_slice();
+    let Monomial { coefficient, term } = item;
+    match taken.into_single() {
+        Ok(single) => {
+            let left = Monomial {
+                coefficient,
+                term: single.left,
+            };
+            let row = with_right_side(alloc, limit, right, nothing, left, single.bindings)?;
+            Ok(Applied::Put(row))
+        }
+        Err(taken) => {
+            let before = untaken(alloc, limit, term);
+            let rest = and_taken(alloc, right, nothing, before, taken)?;
+            put_together(alloc, coefficient, rest)
+        }
+    }
+}
+
+/// A term before any part took from it.
+fn untaken<'a>(alloc: Global, limit: u64, term: Term) -> Remaining<'a>
+    ensures rest { rest_in result ≡ untouched term }
+    ensures limit { result.limit ≡ limit }
+{
+    Remaining {
+        limit,
+        left: term,
+        between: Vec::new(alloc),
+        behind: Vec::new(alloc),
+        has_matched: false,
+    }
+}
+
+/// A term, and the right side by the bindings of a match behind it.
+fn with_right_side<'a>(
+    alloc: Global,
+    limit: u64,
+    right: &'a [Piece],
+    nothing: &'a Standing,
+    left: Monomial,
+    bindings: Bindings,
+) -> Result<Row<'a>, AllocError>
+    requires { nothing.now ≡ no_meanings }
+    ensures { (s : Sum) → right.now ≡ pieces_of_sum s →
+        IfOk result (λ made. made ≡ row limit (single left ∷ right_with limit s bindings ∷ [])) }
+{
+    let names = bound(alloc, bindings);
+    let list = right_side(alloc, limit, right, nothing, &names)?;
+    let row = Row::pair(alloc, limit, left, list)?;
+    Ok(row)
+}
+
 /// What is left of a term once all parts took from it.
 fn rest<'a>(
     alloc: Global,
@@ -86,13 +173,7 @@ fn rest<'a>(
         IfOk result (λ rest. rest_in rest ≡ rest_of limit ps term) }
     ensures limit { IfOk result (λ rest. rest.limit ≡ limit) }
 {
-    let mut rest = Remaining {
-        limit,
-        left: term,
-        between: Vec::new(alloc),
-        behind: Vec::new(alloc),
-        has_matched: false,
-    };
+    let mut rest = untaken(alloc, limit, term);
     for part in &group.parts {
         rest = and_part(alloc, part, nothing, rest)?;
     }

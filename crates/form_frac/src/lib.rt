@@ -11,6 +11,3 @@ mod range;
 pub use divisor::gcd;
 pub use frac::Frac;
 pub use frac_error::FracError;
-
-#[cfg(test)]
-mod tests;

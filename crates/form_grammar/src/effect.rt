@@ -311,7 +311,7 @@ fn dot_effect(last: Last) -> Effect
 }
 
 /// What a `(` does behind this.
-fn call_effect(last: Last) -> Effect
+pub fn call_effect(last: Last) -> Effect
     ensures { result ≡ call_effect_of last }
 {
     match last {
@@ -321,7 +321,8 @@ fn call_effect(last: Last) -> Effect
     }
 }
 
-fn operator_effect(setting: Setting, last: Last, terminal: Terminal) -> Effect
+/// What a terminal does behind a factor of which this stands last.
+pub fn operator_effect(setting: Setting, last: Last, terminal: Terminal) -> Effect
     ensures { result ≡ operator_effect_of setting last terminal }
 {
     match terminal {

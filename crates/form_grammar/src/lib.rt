@@ -18,6 +18,3 @@ pub use error::ReadError;
 pub use right_side::RightSide;
 pub use terminal::Terminal;
 pub use texts::{read_expr, read_pattern, read_right};
-
-#[cfg(test)]
-mod tests;

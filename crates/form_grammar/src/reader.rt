@@ -1,17 +1,25 @@
-ghost use Rattle.std.specs.Prelude.{◌≡◌, map};
+ghost use Rattle.std.specs.Prelude.{◌≡◌, None, false, map};
+ghost use Rattle.form_grammar.specs.declared.effect.Expected.TheVariants.{Exponent};
 ghost use Rattle.std.specs.Vec.Iter.{into_iter_items};
-ghost use Rattle.form_grammar.specs.declared.effect.Effect.TheVariants.{Changes, Opens, Encloses, Calls, Closes, Parts, Dots};
+ghost use Rattle.form_grammar.specs.declared.effect.Effect.TheVariants.{Adds, Waits, Changes, Opens, Encloses, Calls, Closes, Parts, Dots};
+ghost use Rattle.form_grammar.specs.declared.terminal.Terminal.TheVariants as by_terminal;
+ghost use Rattle.form_lexer.specs.Reading.{kind_of};
+ghost use Rattle.form_grammar.specs.Effect.{effect_of as effect_at, operator_effect as operator_effect_of, raise_effect as raise_effect_of, call_effect as call_effect_of};
 ghost use Rattle.form_grammar.specs.Reading.{Gives, applied, begun, changed as changed_by, changed_reading, finished, restriction_in, reading_of, room_for, run as run_from, step, with_name as with_name_of, with_number as with_number_of, with_set as with_set_of};
-ghost use Rattle.form_grammar.specs.Terminal.{terminal_of};
+ghost use Rattle.form_grammar.specs.Terminal.{kind_terminal, mark_terminal as mark_terminal_of, terminal_of};
 
 use crate::ReadError;
 use crate::brackets::{Bracket, Brackets};
-use crate::effect::{Change, Effect, Expected, Last, effect_of, may_end};
-use crate::terminal::Terminal;
-use form_ast::{
-    Expr, Link, NameList, NumberList, Piece, Restriction, Setting, SignedNumber, Spelled,
+use crate::effect::{
+    Change, Effect, Expected, Last, call_effect, effect_of, may_end, operator_effect,
 };
-use form_lexer::Token;
+use crate::terminal::{Terminal, mark_terminal};
+use form_ast::{
+    Expr, Link, NameList, Named, Number, NumberList, Piece, Restriction, Setting, SignedNumber,
+    Spelled,
+};
+use form_base::{Name, Spot};
+use form_lexer::{Mark, Shape, Token, kind};
 use std::alloc::Global;
 use std::mem::replace;
 use std::vec::IntoIter;
@@ -263,6 +271,180 @@ impl Reader {
         ensures { Gives (λ _. reading_of self.new) result (step setting (reading_of self.old) terminal) }
     {
         self.apply(effect_of(setting, self.expected, terminal))
+    }
+
+    /// Goes one piece further, behind which this is expected.
+    fn add(&mut self, piece: Piece, expected: Expected) -> Result<(), ReadError>
+        ensures { Gives (λ _. reading_of self.new) result (applied (reading_of self.old) (Adds piece expected)) }
+    {
+        self.pieces.push(piece)?;
+        self.expected = expected;
+        Ok(())
+    }
+
+    /// Goes one number further where this is expected: the commonest ways at once.
+    fn take_number(
+        &mut self,
+        setting: Setting,
+        expected: Expected,
+        number: Number,
+    ) -> Result<(), ReadError>
+        ensures { Gives (λ _. reading_of self.new) result (applied (reading_of self.old) (effect_at setting expected (by_terminal.Number number))) }
+    {
+        match expected {
+            Expected::Factor(link) => self.add(
+                Piece::Number(link, number),
+                Expected::Operator(Last::Base),
+            ),
+            Expected::Argument => self.add(
+                Piece::Number(Link::First, number),
+                Expected::Operator(Last::Base),
+            ),
+            Expected::Exponent {
+                is_on_enclosed: false,
+                is_parenthesized: false,
+                sign: None,
+            } => self.add(
+                Piece::Raised(false, None, number),
+                Expected::Operator(Last::Power),
+            ),
+            _ => self.apply(effect_of(setting, expected, Terminal::Number(number))),
+        }
+    }
+
+    /// Goes one name further where this is expected.
+    fn take_name(
+        &mut self,
+        setting: Setting,
+        expected: Expected,
+        name: Spelled,
+    ) -> Result<(), ReadError>
+        ensures { Gives (λ _. reading_of self.new) result (applied (reading_of self.old) (effect_at setting expected (by_terminal.Name name))) }
+    {
+        match expected {
+            Expected::Factor(link) => self.add(
+                Piece::Name(link, Named::Declared(name)),
+                Expected::Operator(Last::Name),
+            ),
+            Expected::FurtherArgument => self.add(
+                Piece::Name(Link::First, Named::Declared(name)),
+                Expected::Operator(Last::Name),
+            ),
+            _ => self.apply(effect_of(setting, expected, Terminal::Name(name))),
+        }
+    }
+
+    /// Goes one mark further where this is expected.
+    fn take_mark(
+        &mut self,
+        setting: Setting,
+        expected: Expected,
+        mark: Mark,
+    ) -> Result<(), ReadError>
+        ensures { Gives (λ _. reading_of self.new) result (applied (reading_of self.old) (effect_at setting expected (mark_terminal_of mark))) }
+    {
+        match expected {
+            Expected::Operator(last) => self.take_operator(setting, last, mark),
+            _ => self.apply(effect_of(setting, expected, mark_terminal(mark))),
+        }
+    }
+
+    /// The same behind a factor of which this stands last.
+    fn take_operator(&mut self, setting: Setting, last: Last, mark: Mark) -> Result<(), ReadError>
+        ensures { Gives (λ _. reading_of self.new) result (applied (reading_of self.old) (operator_effect_of setting last (mark_terminal_of mark))) }
+    {
+        match mark {
+            Mark::Times => self.wait(Expected::Factor(Link::Times)),
+            Mark::Plus => self.wait(Expected::Factor(Link::Plus)),
+            Mark::Minus => self.wait(Expected::Factor(Link::Minus)),
+            Mark::Power => self.raise(last),
+            Mark::Open => self.open_behind(last),
+            Mark::Close => self.close(),
+            Mark::Comma => self.part(),
+            _ => self.apply(operator_effect(setting, last, mark_terminal(mark))),
+        }
+    }
+
+    /// Goes on to a power behind a factor of which this stands last.
+    fn raise(&mut self, last: Last) -> Result<(), ReadError>
+        ensures { Gives (λ _. reading_of self.new) result (applied (reading_of self.old) (raise_effect_of last)) }
+    {
+        match last {
+            Last::Name => self.wait_for_power(false),
+            Last::Imaginary => self.wait_for_power(false),
+            Last::Marked => self.wait_for_power(false),
+            Last::DotName => self.wait_for_power(false),
+            Last::Base => self.wait_for_power(false),
+            Last::Enclosed => self.wait_for_power(true),
+            Last::Power => Err(ReadError::BadSyntax),
+        }
+    }
+
+    /// A power is expected next, which stands on what has parentheses or not.
+    fn wait_for_power(&mut self, is_on_enclosed: bool) -> Result<(), ReadError>
+        ensures { Gives (λ _. reading_of self.new) result (applied (reading_of self.old) (Waits (Exponent is_on_enclosed false None))) }
+    {
+        self.wait(Expected::Exponent {
+            is_on_enclosed,
+            is_parenthesized: false,
+            sign: None,
+        })
+    }
+
+    /// Opens a parenthesis behind a factor of which this stands last.
+    fn open_behind(&mut self, last: Last) -> Result<(), ReadError>
+        ensures { Gives (λ _. reading_of self.new) result (applied (reading_of self.old) (call_effect_of last)) }
+    {
+        match last {
+            Last::Name => self.call(false),
+            _ => self.apply(call_effect(last)),
+        }
+    }
+
+    /// Only this is expected next.
+    fn wait(&mut self, expected: Expected) -> Result<(), ReadError>
+        ensures { Gives (λ _. reading_of self.new) result (applied (reading_of self.old) (Waits expected)) }
+    {
+        self.expected = expected;
+        Ok(())
+    }
+
+    /// Goes one token further, that of this shape that is written so.
+    pub fn take_shape(
+        &mut self,
+        setting: Setting,
+        spot: Spot,
+        shape: Shape,
+        text: &str,
+    ) -> Result<(), ReadError>
+        ensures { Gives (λ _. reading_of self.new) result (step setting (reading_of self.old) (kind_terminal (kind_of shape text.now) spot)) }
+    {
+        match shape {
+            Shape::Mark(mark) => self.take_mark(setting, self.expected, mark),
+            Shape::Number(value) => {
+                self.take_number(setting, self.expected, Number { value, spot })
+            }
+            Shape::Name => {
+                let name = Name::new(self.alloc, text)?;
+                self.take_name(setting, self.expected, Spelled { name, spot })
+            }
+            Shape::BuiltIn(_) => self.take_other(setting, spot, shape, text),
+            Shape::Stray => self.take_other(setting, spot, shape, text),
+        }
+    }
+
+    /// The same of any token.
+    fn take_other(
+        &mut self,
+        setting: Setting,
+        spot: Spot,
+        shape: Shape,
+        text: &str,
+    ) -> Result<(), ReadError>
+        ensures { Gives (λ _. reading_of self.new) result (step setting (reading_of self.old) (kind_terminal (kind_of shape text.now) spot)) }
+    {
+        let kind = kind(self.alloc, shape, text)?;
+        self.take(setting, Terminal::from(Token { kind, spot }))
     }
 
     /// All of it, where it is complete.

@@ -4,11 +4,15 @@ ghost use Rattle.form_grammar.specs.declared.terminal.Terminal.{Terminal};
 ghost use Rattle.form_grammar.specs.Grammar.{IsExpr};
 ghost use Rattle.form_grammar.specs.Parts.{HasRead};
 ghost use Rattle.form_grammar.specs.Reading.{Excludes};
+ghost use Rattle.form_grammar.specs.Terminal.{kind_terminal};
+ghost use Rattle.form_lexer.specs.Reading.{kind_of};
 
 use crate::ReadError;
 use crate::reader::Reader;
 use crate::terminal::Terminal;
 use form_ast::{Expr, Setting};
+use form_base::Spot;
+use form_lexer::Shape;
 use std::alloc::{AllocError, Global};
 
 /// A right side up to some token.
@@ -37,6 +41,23 @@ impl RightSide {
             return Ok(());
         }
         match self.reader.take(Setting::Plain, terminal) {
+            Ok(()) => Ok(()),
+            Err(ReadError::BadSyntax) => {
+                self.has_failed = true;
+                Ok(())
+            }
+            Err(ReadError::Memory) => Err(AllocError),
+        }
+    }
+
+    /// Goes one token further, that of this shape that is written so and stands here.
+    pub fn take_shape(&mut self, spot: Spot, shape: Shape, text: &str) -> Result<(), AllocError>
+        ensures { OnOk result ((read : List Terminal) → HasRead read self.old → HasRead (read ++ kind_terminal (kind_of shape text.now) spot ∷ []) self.new) }
+    {
+        if self.has_failed {
+            return Ok(());
+        }
+        match self.reader.take_shape(Setting::Plain, spot, shape, text) {
             Ok(()) => Ok(()),
             Err(ReadError::BadSyntax) => {
                 self.has_failed = true;

@@ -34,7 +34,7 @@ pub enum Terminal {
 }
 
 /// A mark as the grammar sees it.
-fn mark_terminal(mark: Mark) -> Terminal
+pub fn mark_terminal(mark: Mark) -> Terminal
     ensures { result ≡ mark_terminal_of mark }
 {
     match mark {

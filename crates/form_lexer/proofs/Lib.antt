@@ -1,6 +1,7 @@
 pub mod Fronts
 pub mod Marks
 pub mod Classes
+pub mod Lone
 pub mod Complete
 pub mod Local
 pub mod Sound

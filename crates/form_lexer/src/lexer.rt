@@ -4,13 +4,13 @@ ghost use Rattle.std.specs.Str.{IsAscii};
 ghost use Rattle.form_lexer.specs.Tokens.{is_blank, AppendsTokens};
 ghost use Rattle.form_lexer.specs.Reading.{kind_of, IsNext};
 
-use crate::shape::{Shape, blanks, token_at};
-use crate::{Token, TokenKind};
+use crate::shape::{blanks, token_at};
+use crate::{Shape, Token, TokenKind};
 use form_base::{Name, Spot};
 use std::alloc::{AllocError, Global};
 
 /// The kind of a token of this shape that is written so.
-fn kind(alloc: Global, shape: Shape, text: &str) -> Result<TokenKind, AllocError>
+pub fn kind(alloc: Global, shape: Shape, text: &str) -> Result<TokenKind, AllocError>
     ensures { IfOk result (λ kind. kind ≡ kind_of shape text.now) }
 {
     Ok(match shape {
@@ -24,7 +24,7 @@ fn kind(alloc: Global, shape: Shape, text: &str) -> Result<TokenKind, AllocError
 
 /// The next token of a line, its text and what follows it; none where blanks alone are left.
 #[tactic(auto, using(crate::proofs::Fronts::front_within))]
-fn next_token(line: &str) -> Option<(Shape, &str, &str)>
+pub fn next_token(line: &str) -> Option<(Shape, &str, &str)>
     requires { IsAscii line.now }
     ensures { MatchOption result (AllPass is_blank line.now) (λ x. IsNext line.now x.0 x.1.now x.2.now) }
 {

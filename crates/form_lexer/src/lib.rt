@@ -7,9 +7,7 @@ mod mark;
 mod shape;
 mod token;
 
-pub use lexer::lex;
+pub use lexer::{kind, lex, next_token};
 pub use mark::{BuiltIn, Mark};
+pub use shape::Shape;
 pub use token::{Token, TokenKind};
-
-#[cfg(test)]
-mod tests;

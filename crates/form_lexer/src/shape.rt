@@ -1,6 +1,6 @@
 //! The front of a text read as one token, as far as that needs no memory.
 
-ghost use Rattle.std.specs.Prelude.{◌≡◌, ◌≤◌, ◌==◌, position, IfSome};
+ghost use Rattle.std.specs.Prelude.{◌≡◌, ◌≤◌, ◌==◌, ℕ, List, ◌∷◌, position, IfSome};
 ghost use Rattle.std.specs.Char.{is_ascii_digit, is_ascii_alphanumeric};
 ghost use Rattle.std.specs.List.{AllPass};
 ghost use Rattle.form_lexer.specs.Tokens.{is_blank, kept_value, value_of};
@@ -9,8 +9,8 @@ ghost use Rattle.form_lexer.specs.Reading.{front, double_mark as double_mark_of,
 use crate::{BuiltIn, Mark};
 
 /// What a token is, before its name is kept.
-#[derive(Clone, Copy)]
-pub(crate) enum Shape {
+#[derive(Clone, Copy, Debug, PartialEq, Eq)]
+pub enum Shape {
     Number(u128),
     Name,
     BuiltIn(BuiltIn),
@@ -208,11 +208,33 @@ fn mark(text: &[u8]) -> (Shape, usize)
     (Shape::Stray, 1)
 }
 
+/// The mark of a character, where it is one of the commonest, with which no mark of two characters begins.
+#[tactic(auto, using(crate::proofs::Lone::times, crate::proofs::Lone::power, crate::proofs::Lone::opening, crate::proofs::Lone::close, crate::proofs::Lone::comma, crate::proofs::Lone::plus, crate::proofs::Lone::minus))]
+fn lone_mark(character: u8) -> Option<Mark>
+    ensures { IfSome result (λ mark. (rest : List ℕ) → token_at_front (character ∷ rest) ≡ (Shape.Mark mark, 1)) }
+{
+    match character {
+        b'*' => Some(Mark::Times),
+        b'^' => Some(Mark::Power),
+        b'(' => Some(Mark::Open),
+        b')' => Some(Mark::Close),
+        b',' => Some(Mark::Comma),
+        b'+' => Some(Mark::Plus),
+        b'-' => Some(Mark::Minus),
+        _ => None,
+    }
+}
+
 /// The token that a text begins with, which isn't empty and begins with no blank; and how many bytes it has.
 #[tactic(auto, unfolding(crate::specs::Reading::token_at))]
 pub(crate) fn token_at(text: &[u8]) -> (Shape, usize)
     ensures { result ≡ token_at_front text.now }
 {
+    if let [first, ..] = text
+        && let Some(mark) = lone_mark(*first)
+    {
+        return (Shape::Mark(mark), 1);
+    }
     match text {
         [b'0'..=b'9', ..] => number(text),
         [b'A'..=b'Z' | b'a'..=b'z', ..] => word(text),

@@ -6,6 +6,3 @@ mod lines;
 
 pub use line::Line;
 pub use lines::{LinesError, last_line, lines_of};
-
-#[cfg(test)]
-mod tests;

@@ -66,7 +66,7 @@ pieces_less : (steps : List Step) (outermost : Host) (span : Span) (n : ℕ) →
 pieces_less steps outermost span n = sym (drop-drop n span.from (pieces_of (slice_get (calls_at steps outermost span) span.place)))
 
 -- what a wildcard for an argument may be, in one way at most
-any_is : (sort : Sort) (n : Name) (a : terms.Argument) → any_ways sort n a ≡ option_to_list (any_asked sort n a)
+pub any_is : (sort : Sort) (n : Name) (a : terms.Argument) → any_ways sort n a ≡ option_to_list (any_asked sort n a)
 any_is sorts.Expression n (terms.expression ss) = refl
 any_is sorts.Expression n (terms.index i) = refl
 any_is sorts.Expression n (terms.vector v) = refl
@@ -97,24 +97,24 @@ second_or bs None = bs
 second_or bs (Some p) = p.1
 
 -- what is asked leads to a state where it can be learnt
-asking_is : (os : List Open) (bs : List Binding) (a : Option (List Binding)) → asking_too os bs a ≡ option_map (state os) (learnt_of bs a)
+pub asking_is : (os : List Open) (bs : List Binding) (a : Option (List Binding)) → asking_too os bs a ≡ option_map (state os) (learnt_of bs a)
 asking_is os bs None = refl
 asking_is os bs (Some asks) = refl
 
 abbrev no_state : Option State
 no_state = None
 
-taking_none : (us : List Use) (u : Use) → taking_too us u None ≡ None
+pub taking_none : (us : List Use) (u : Use) → taking_too us u None ≡ None
 taking_none us u = by (list_any (λ v. clashes v u) us)
   where
     by : (b : Bool) → (if b then no_state else no_state) ≡ no_state
     by true = refl
     by false = refl
 
-taking_free : (us : List Use) (u : Use) (s : Option State) → list_any (λ v. clashes v u) us ≡ false → taking_too us u s ≡ s
+pub taking_free : (us : List Use) (u : Use) (s : Option State) → list_any (λ v. clashes v u) us ≡ false → taking_too us u s ≡ s
 taking_free us u s free = ap (λ (b : Bool). if b then None else s) free
 
-taking_clash : (us : List Use) (u : Use) (s : Option State) → list_any (λ v. clashes v u) us ≡ true → taking_too us u s ≡ None
+pub taking_clash : (us : List Use) (u : Use) (s : Option State) → list_any (λ v. clashes v u) us ≡ true → taking_too us u s ≡ None
 taking_clash us u s clash = ap (λ (b : Bool). if b then None else s) clash
 
 module _ (h : Host) (us : List Use) (os : List Open) (old new : List Binding) where
@@ -132,11 +132,11 @@ module _ (h : Host) (us : List Use) (os : List Open) (old new : List Binding) wh
   not_learnt t None is = taking_none us t
   not_learnt t (Some made) is = cc
 
-  chosen : (u : Use) (o : Option Choice) → chosen_of old o ≡ Some (u, new) → option_and_then (with_choice h us os old) o ≡ with_use u (Some new)
+  pub chosen : (u : Use) (o : Option Choice) → chosen_of old o ≡ Some (u, new) → option_and_then (with_choice h us os old) o ≡ with_use u (Some new)
   chosen u None is = cc
   chosen u (Some c) is = by_learnt c.takes u (learnt old c.asks) is
 
-  not_chosen : (o : Option Choice) → chosen_of old o ≡ None → option_and_then (with_choice h us os old) o ≡ None
+  pub not_chosen : (o : Option Choice) → chosen_of old o ≡ None → option_and_then (with_choice h us os old) o ≡ None
   not_chosen None is = refl
   not_chosen (Some c) is = not_learnt c.takes (learnt old c.asks) is
 
@@ -521,7 +521,7 @@ nonempty p zero parts = (p ∷ [], parts, refl)
 nonempty p (suc level) [] = (p ∷ [], [], refl)
 nonempty p (suc level) (part ∷ parts) = (p ∷ part, parts, refl)
 
-some_argument : (p : Piece) (ps : List Piece) → (x : terms.Argument) × (xs : List terms.Argument) × (arguments_of (p ∷ ps) ≡ x ∷ xs)
+pub some_argument : (p : Piece) (ps : List Piece) → (x : terms.Argument) × (xs : List terms.Argument) × (arguments_of (p ∷ ps) ≡ x ∷ xs)
 unfolding arguments_of parts_of
 some_argument p ps =
     let first = nonempty p (level_behind 0 p) (parts_from (level_behind 0 p) ps) in

@@ -1,5 +1,6 @@
 -- The first match, by what the search finds.
 use Rattle.std.proofs.Common.{◌≡◌, ℕ, Bool, true, false, List, [], Option, Some, None, sym, ap, subst, ◌∙◌}
+use Rattle.std.specs.Prelude.{IfSome}
 use Rattle.std.specs.List.{list_all}
 use Rattle.form_term.specs.declared.piece.Piece.{Piece}
 use Rattle.form_term.specs.declared.power.Power.{Power}
@@ -47,6 +48,12 @@ module _ (t : Term) (cuts : List ℕ) (is_exact : Bool) where
       → Finds b (first_found (reach table ps (start (outer t cuts is_exact)))) us bs → m ≡ record { takes = us; bindings = bs } → Fits m.takes t
   found_fitting table ps true us bs m lawful told found e = subst (λ (n : Match). Fits n.takes t) (sym e) (found_fits t lawful table ps cuts is_exact (record { takes = us; bindings = bs }) found)
   found_fitting table ps false us bs m lawful told found e = cc
+
+  -- what is found straight on
+  pub found_straight : (table : List (Option (List Piece))) (ps : List PatternPiece) (found : Option Match) → IsTerm t → found ≡ first_found (reach table ps (start (outer t cuts is_exact)))
+      → IfSome found (λ m. Fits m.takes t)
+  found_straight table ps None lawful e = tt
+  found_straight table ps (Some m) lawful e = found_fits t lawful table ps cuts is_exact m (sym e)
 
 pub powers_fitting : (t : Term) (is_exact : Bool) (powers : List Power) (ps : List PatternPiece) (us : List Use) → powers ≡ t.symbols → Some us ≡ uses_from is_exact powers [] ps → Fits us t
 powers_fitting t is_exact powers ps us e found = powers_fit is_exact t us ps (sym (found ∙ ap (λ (l : List Power). uses_from is_exact l [] ps) e))

@@ -1,5 +1,7 @@
+pub mod Absent
 pub mod Attempting
 pub mod Cutting
+pub mod Direct
 pub mod Exponents
 pub mod Firsts
 pub mod Found
@@ -19,6 +21,7 @@ pub mod Remaining
 pub mod Running
 pub mod Somewhere
 pub mod Standing
+pub mod Staying
 pub mod Stepping
 pub mod Told
 pub mod Trails

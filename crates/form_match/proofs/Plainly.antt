@@ -1,5 +1,5 @@
 -- A power of a symbol that is no wildcard has one choice at most.
-use Rattle.std.proofs.Common.{◌≡◌, ℕ, suc, ◌+◌, ◌<◌, ◌≤◌, ◌==◌, Bool, true, false, cond, if◌then◌else◌, ℤ, List, [], ◌∷◌, ◌++◌, Option, Some, None, option_map, option_and_then, length, drop, get_or, refl, sym, ap, ◌∙◌, arith, eqb-true}
+use Rattle.std.proofs.Common.{◌≡◌, ℕ, zero, suc, ◌+◌, ◌<◌, ◌≤◌, ◌==◌, Bool, true, false, cond, if◌then◌else◌, ℤ, List, [], ◌∷◌, ◌++◌, Option, Some, None, option_map, option_and_then, length, drop, get_or, refl, sym, ap, ◌∙◌, arith, eqb-true}
 use Rattle.std.proofs.lemmas.Bool.{ne_eqb}
 use Rattle.std.specs.Prelude.{option_to_list}
 use Rattle.std.specs.List.{filter_map, cons_option, list_any}
@@ -11,7 +11,7 @@ use Rattle.form_tree.specs.declared.pattern.PatternPiece.{PatternPiece}
 use Rattle.form_match.specs.declared.uses.Use.{Use}
 use Rattle.form_match.specs.declared.uses.Use.TheVariants as uses
 use Rattle.form_match.specs.Matching.{Choice, clashes, fits, symbol_choice, taking}
-use Rattle.form_match.specs.Symbols.{power_in, power_of, and_use, uses_from}
+use Rattle.form_match.specs.Symbols.{power_at, power_in, power_of, and_use, uses_from}
 
 abbrev pub plain : Use → Choice
 plain u = record { takes = u; asks = [] }
@@ -24,7 +24,7 @@ never k r true = refl
 never k r false = refl
 
 module _ (is_exact : Bool) (s : ℕ) (k : ℤ) where
-  not_here : (p : Power) → (s == p.symbol) ≡ false → symbol_choice is_exact (Itself s) k p ≡ None
+  pub not_here : (p : Power) → (s == p.symbol) ≡ false → symbol_choice is_exact (Itself s) k p ≡ None
   not_here p e = ap (choice_of k p.symbol (fits is_exact p.exponent k)) e ∙ never k p.symbol (fits is_exact p.exponent k)
 
   none_above : (n : ℕ) (ps : List Power) → s < n → RiseFrom n ps → filter_map (symbol_choice is_exact (Itself s) k) ps ≡ []
@@ -50,14 +50,46 @@ module _ (is_exact : Bool) (s : ℕ) (k : ℤ) where
           ap (cons_option (choice_of k p.symbol (fits is_exact p.exponent k) true)) (none_above (suc p.symbol) ps (omega (arith, same)) rise.1)
           ∙ here (fits is_exact p.exponent k) same
 
-  pub power_here : (ps : List Power) (i : ℕ) (p : Power) (b : Bool) → i < length ps → p ≡ get_or ps i p → b ≡ (s == p.symbol)
-      → power_of is_exact s k (drop i ps) ≡ cond b (if fits is_exact p.exponent k then Some (uses.Symbol s k) else None) (power_of is_exact s k (drop (i + 1) ps))
-  power_here ps i p b within is test =
-      ap (power_of is_exact s k) (drop_more ps i p within ∙ ap (λ (x : Power). x ∷ drop (i + 1) ps) (sym is))
-      ∙ ap (λ (t : Bool). cond t (if fits is_exact p.exponent k then Some (uses.Symbol s k) else None) (power_of is_exact s k (drop (i + 1) ps))) (sym test)
+  -- what is taken of a power
+  abbrev pub use_of_power : Option Power → Option Use
+  use_of_power None = None
+  use_of_power (Some p) = if fits is_exact p.exponent k then Some (uses.Symbol s k) else None
 
-  pub power_end : (ps : List Power) (i : ℕ) → length ps ≤ i → power_of is_exact s k (drop i ps) ≡ None
-  power_end ps i past = ap (power_of is_exact s k) (drop_all i ps past)
+  pub power_of_at : (ps : List Power) → power_of is_exact s k ps ≡ use_of_power (power_at s ps)
+  power_of_at [] = refl
+  power_of_at (p ∷ ps) = by (s == p.symbol) (power_of_at ps)
+    where
+      by : (b : Bool) → power_of is_exact s k ps ≡ use_of_power (power_at s ps)
+          → cond b (if fits is_exact p.exponent k then Some (uses.Symbol s k) else None) (power_of is_exact s k ps) ≡ use_of_power (cond b (Some p) (power_at s ps))
+      by true rest = refl
+      by false rest = rest
+
+-- ---- the power of a symbol, by a walk over all
+
+module _ (s : ℕ) where
+  pub at_here : (ps : List Power) (i : ℕ) (p : Power) (b : Bool) → i < length ps → p ≡ get_or ps i p → b ≡ (s == p.symbol)
+      → power_at s (drop i ps) ≡ cond b (Some p) (power_at s (drop (i + 1) ps))
+  at_here ps i p b within is test =
+      ap (power_at s) (drop_more ps i p within ∙ ap (λ (x : Power). x ∷ drop (i + 1) ps) (sym is))
+      ∙ ap (λ (t : Bool). cond t (Some p) (power_at s (drop (i + 1) ps))) (sym test)
+
+  pub at_end : (ps : List Power) (i : ℕ) → length ps ≤ i → power_at s (drop i ps) ≡ None
+  at_end ps i past = ap (power_at s) (drop_all i ps past)
+
+  at_none : (n : ℕ) (ps : List Power) → s < n → RiseFrom n ps → power_at s ps ≡ None
+  at_none n [] below rise = refl
+  at_none n (p ∷ ps) below rise =
+      ap (λ (b : Bool). cond b (Some p) (power_at s ps)) (ne_eqb s p.symbol (λ e. omega (arith, below, rise.0, e)))
+      ∙ at_none (suc p.symbol) ps (omega (arith, below, rise.0)) rise.1
+
+  -- none is behind one of a later symbol
+  pub at_passed : (n : ℕ) (ps : List Power) (i : ℕ) (p : Power) → RiseFrom n ps → i < length ps → p ≡ get_or ps i p → s < p.symbol → power_at s (drop i ps) ≡ None
+  at_passed n [] i p rise within is before = absurd (omega (arith, within))
+  at_passed n (q ∷ qs) zero p rise within is before =
+      let e : p.symbol ≡ q.symbol = ap (λ (x : Power). x.symbol) is in
+      ap (λ (b : Bool). cond b (Some q) (power_at s qs)) (ne_eqb s q.symbol (λ same. omega (arith, before, e, same)))
+      ∙ at_none (suc q.symbol) qs (omega (arith, before, e)) rise.1
+  at_passed n (q ∷ qs) (suc j) p rise within is before = at_passed (suc q.symbol) qs j p rise.1 (omega (arith, within)) is before
 
 module _ (is_exact : Bool) (ps : List Power) (us : List Use) (qs : List PatternPiece) where
   pub uses_here : (i : ℕ) (q : PatternPiece) (o : Option Use) → i < length qs → q ≡ get_or qs i q → o ≡ power_in is_exact ps q

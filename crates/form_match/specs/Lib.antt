@@ -4,6 +4,7 @@ pub mod Candidates
 pub mod Entries
 pub mod First
 pub mod Fits
+pub mod Lacking
 pub mod Learning
 pub mod Frames
 pub mod Left
@@ -12,6 +13,7 @@ pub mod Parts
 pub mod Ready
 pub mod Running
 pub mod States
+pub mod Straight
 pub mod Symbols
 pub mod Taken
 pub mod Values

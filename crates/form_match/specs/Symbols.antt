@@ -14,6 +14,11 @@ abbrev pub power_of : Bool → ℕ → ℤ → List Power → Option Use
 power_of is_exact s k [] = None
 power_of is_exact s k (p ∷ ps) = if s == p.symbol then (if fits is_exact p.exponent k then Some (uses.Symbol s k) else None) else power_of is_exact s k ps
 
+-- the power of a symbol among these
+abbrev pub power_at : ℕ → List Power → Option Power
+power_at s [] = None
+power_at s (p ∷ ps) = if s == p.symbol then Some p else power_at s ps
+
 abbrev pub power_in : Bool → List Power → PatternPiece → Option Use
 power_in is_exact ps (pieces.Symbol (Itself s) k) = power_of is_exact s k ps
 power_in is_exact ps _ = None

@@ -17,6 +17,11 @@ abbrev pub dot_part : ℕ → Use → Option ℤ
 dot_part m (uses.Dot n k) = if m == n then Some k else None
 dot_part m _ = None
 
+-- whether a use is of a symbol
+abbrev pub is_of_symbol : Use → Bool
+is_of_symbol (uses.Symbol t k) = true
+is_of_symbol _ = false
+
 -- that of the first use
 abbrev pub first_part : (Use → Option ℤ) → List Use → ℤ
 first_part part [] = pos 0

@@ -54,7 +54,7 @@ impl Entry {
 /// of arguments: of one for a symbol, an index or a vector, of any number for a field. That of a function is its piece.
 #[derive(Drop)]
 pub struct Bindings {
-    entries: SmallVec<Entry, 8>,
+    entries: SmallVec<Entry, 4>,
     pieces: Vec<Piece>,
 }
 

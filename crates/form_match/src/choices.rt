@@ -86,7 +86,7 @@ pub fn symbol(
     }
 }
 
-fn take_symbol(
+pub fn take_symbol(
     bindings: &mut Bindings,
     is_exact: bool,
     name: &Name,
@@ -124,7 +124,7 @@ pub fn whole(
     }
 }
 
-fn take_whole(
+pub fn take_whole(
     bindings: &mut Bindings,
     name: &Name,
     exponent: &Name,
@@ -144,7 +144,7 @@ fn take_whole(
 }
 
 /// A symbol that is absent from a term that isn't an inner one, with the exponent 0.
-fn take_absent(
+pub fn take_absent(
     bindings: &mut Bindings,
     host: &Host,
     name: &Name,

@@ -1,9 +1,10 @@
-ghost use Rattle.std.specs.Prelude.{◌≡◌, ◌++◌, ◌+◌, ◌<◌, ◌≤◌, ◌^◌, ℕ, ◌-ℤ◌, [], ◌∷◌, IsTrue, IfOk, OnOk, length, take, drop, slice_index_or};
+ghost use Rattle.std.specs.Prelude.{◌≡◌, ◌++◌, ◌+◌, ◌<◌, ◌≤◌, ◌^◌, ℕ, ◌-ℤ◌, [], ◌∷◌, All, IsTrue, IfOk, OnOk, length, nat_abs, take, drop, slice_index_or};
+ghost use Rattle.std.specs.List.{list_any};
 ghost use Rattle.form_term.specs.Term.{exponent_in};
 ghost use Rattle.form_match.specs.Fits.{Fits, FitsExponent};
 ghost use Rattle.form_match.specs.Left.{left_of as left_of_term, dots_left as dots_left_of, powers_left as powers_left_of, symbol_taken as symbol_taken_by, dot_taken as dot_taken_by, taken, takes_component, takes_delta, takes_function, untaken, without_stretch as without_stretch_of, word_left as word_left_of};
 ghost use Rattle.form_match.specs.Matching.{are_apart};
-ghost use Rattle.form_match.specs.Taken.{FitsDots, FitsSymbols, present_dot, present_power, unless};
+ghost use Rattle.form_match.specs.Taken.{FitsDots, FitsSymbols, is_of_symbol, present_dot, present_power, unless};
 
 use crate::Use;
 use crate::taken::{
@@ -32,13 +33,41 @@ pub fn left_of(alloc: Global, term: &Term, takes: &[Use]) -> Result<Term, AllocE
 fn powers_left(alloc: Global, powers: &[Power], takes: &[Use]) -> Result<Vec<Power>, AllocError>
     requires apart { IsTrue (are_apart takes.now) }
     requires fits { FitsSymbols takes.now powers.now }
+    requires present { All (λ p. 0 < nat_abs p.exponent) powers.now }
     ensures { IfOk result (λ left. left.items ≡ powers_left_of takes.now powers.now) }
 {
+    if !takes_symbol(takes) {
+        return copied(alloc, powers);
+    }
     let mut left = Vec::with_capacity(alloc, powers.len())?;
     for power in powers {
         put_power(&mut left, &lowered_power(power, takes))?;
     }
     Ok(left)
+}
+
+/// Whether something is taken of a symbol.
+fn takes_symbol(takes: &[Use]) -> bool
+    ensures { result ≡ list_any is_of_symbol takes.now }
+{
+    takes.iter().any(|one| is_of_symbol(one))
+}
+
+fn is_of_symbol(one: &Use) -> bool
+    ensures { result ≡ is_of_symbol one.now }
+{
+    match one {
+        Use::Symbol(_, _) => true,
+        _ => false,
+    }
+}
+
+fn copied(alloc: Global, powers: &[Power]) -> Result<Vec<Power>, AllocError>
+    ensures { IfOk result (λ copy. copy.items ≡ powers.now) }
+{
+    let mut copy = Vec::with_capacity(alloc, powers.len())?;
+    copy.extend_from_slice(powers)?;
+    Ok(copy)
 }
 
 /// A power once what is taken of it is gone.
@@ -153,16 +182,26 @@ fn functions_left(alloc: Global, functions: &[Call], takes: &[Use]) -> Result<Ve
     let mut left = Vec::with_capacity(alloc, functions.len())?;
     let mut place: usize = 0;
     for call in functions {
-        keep(&mut left, call.clone()?, is_function_taken(place, takes))?;
+        keep_call(&mut left, call, is_function_taken(place, takes))?;
         place += 1;
     }
     Ok(left)
 }
 
+/// Puts a copy of a function last unless it is taken.
+fn keep_call(left: &mut Vec<Call>, call: &Call, is_taken: bool) -> Result<(), AllocError>
+    ensures { OnOk result (left.new.items ≡ left.old.items ++ unless is_taken call.now) }
+{
+    if !is_taken {
+        left.push(call.clone()?)?;
+    }
+    Ok(())
+}
+
 fn word_left(alloc: Global, word: &[Call], takes: &[Use]) -> Result<Vec<Call>, AllocError>
     ensures { IfOk result (λ left. left.items ≡ word_left_of takes.now word.now) }
 {
-    let mut left = Vec::new(alloc);
+    let mut left = Vec::with_capacity(alloc, word.len())?;
     put_calls(&mut left, word)?;
     for one in takes {
         left = without_use(alloc, left, one)?;

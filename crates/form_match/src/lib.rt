@@ -6,12 +6,14 @@ mod bindings;
 mod choices;
 mod frames;
 mod host;
+mod lacking;
 pub mod laws;
 mod left;
 mod matching;
 mod pattern;
 mod search;
 mod sets;
+mod straight;
 mod symbols;
 mod taken;
 mod uses;
@@ -23,6 +25,3 @@ pub use left::left_of;
 pub use matching::{Match, first_match, first_of};
 pub use pattern::Pattern;
 pub use uses::{Use, Uses};
-
-#[cfg(test)]
-mod tests;

@@ -5,10 +5,15 @@ ghost use Rattle.form_term.specs.declared.piece.Piece.{Piece};
 ghost use Rattle.form_tree.specs.Pattern.{Factors, pieces_of_factors};
 ghost use Rattle.form_match.specs.Fits.{Fits};
 ghost use Rattle.form_match.specs.Matching.{first_match as first_match_of, first_of as first_of_all};
+ghost use Rattle.form_match.specs.Attempts.{table_of};
+ghost use Rattle.form_match.specs.Frames.{ground_of};
+ghost use Rattle.form_match.specs.States.{first_found, reach, start};
 ghost use Rattle.form_match.specs.Symbols.{is_plain};
 
 use crate::frames::Ground;
+use crate::lacking::lacks_first;
 use crate::search::Search;
+use crate::straight::straight_match;
 use crate::symbols::{are_symbols, find_powers};
 use crate::{Bindings, Pattern, Uses};
 use form_term::Term;
@@ -52,6 +57,9 @@ pub fn first_of(
     if are_symbols(pieces) {
         return first_of_symbols(alloc, pieces, term, is_exact);
     }
+    if lacks_first(term, pieces) {
+        return Ok(None);
+    }
     term_laws(term);
     let outermost = Ground {
         term,
@@ -59,13 +67,33 @@ pub fn first_of(
         is_exact,
         fixed: pattern.fixed(),
     };
-    let mut search = Search::new(alloc);
+    let straight = straight_first(alloc, pattern, &outermost)?;
+    if let Some(found) = straight {
+        return Ok(found);
+    }
+    let mut search = Search::with_room(alloc, pieces.len())?;
     let is_found = search.run(alloc, &outermost, pieces)?;
     if is_found {
         let found = search.into_match(alloc)?;
         return Ok(Some(found));
     }
     Ok(None)
+}
+
+/// The first match of a pattern that is tried straight on; none where it is another one.
+fn straight_first(
+    alloc: Global,
+    pattern: &Pattern,
+    outermost: &Ground,
+) -> Result<Option<Option<Match>>, AllocError>
+    requires { IsTerm outermost.now.term.now }
+    ensures { IfOk result (λ o. IfSome o (λ m.
+        m ≡ first_found (reach (table_of outermost.now.fixed.now) pattern.now.pieces (start (ground_of outermost.now))))) }
+{
+    if !pattern.is_straight() {
+        return Ok(None);
+    }
+    straight_match(alloc, outermost, pattern.pieces())
 }
 
 /// A term is lawful.

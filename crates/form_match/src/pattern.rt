@@ -13,6 +13,8 @@ use std::marker::Model;
 pub struct Pattern<'a> {
     pieces: &'a [PatternPiece],
     fixed: Vec<Option<Call>>,
+    /// Whether each piece seems to have one candidate at most. Nothing is claimed of it: what tries so may give up.
+    is_straight: bool,
 }
 
 impl<'a> Model for Pattern<'a> {
@@ -32,7 +34,11 @@ impl<'a> Pattern<'a> {
         ensures { IfOk result (λ p. p ≡ ready pieces.now fixed.items) }
     {
         let _ = alloc;
-        Ok(Pattern { pieces, fixed })
+        Ok(Pattern {
+            pieces,
+            fixed,
+            is_straight: seems_straight(pieces),
+        })
     }
 
     pub fn pieces(&self) -> &'a [PatternPiece]
@@ -48,6 +54,11 @@ impl<'a> Pattern<'a> {
         self.fixed.as_slice()
     }
 
+    /// Whether it may be tried straight on.
+    pub(crate) fn is_straight(&self) -> bool {
+        self.is_straight
+    }
+
     /// Whether it has symbols and dot products alone, without wildcards.
     pub fn is_plain(&self) -> bool
         ensures { result ≡ list_all is_plain_piece self.now.pieces }
@@ -60,6 +71,25 @@ impl<'a> Pattern<'a> {
         ensures { result ≡ list_any is_whole_piece self.now.pieces }
     {
         self.pieces.iter().any(|piece| is_whole(piece))
+    }
+}
+
+/// Whether a pattern has powers of symbols that are no wildcards, and at most one function, with arguments of one candidate.
+fn seems_straight(pieces: &[PatternPiece]) -> bool {
+    match pieces.split_last() {
+        Some((_end, others)) => others.iter().all(|piece| is_straight(piece)),
+        None => false,
+    }
+}
+
+fn is_straight(piece: &PatternPiece) -> bool {
+    match piece {
+        PatternPiece::Symbol(name, _) => is_itself(name),
+        PatternPiece::Whole(name, _) => is_itself(name),
+        PatternPiece::Function(_) => true,
+        PatternPiece::Fixed(_) => true,
+        PatternPiece::Any(_, _) => true,
+        _ => false,
     }
 }
 

@@ -65,14 +65,15 @@ pub struct Search {
 }
 
 impl Search {
-    pub fn new(alloc: Global) -> Search
-        ensures steps { result.steps.items ≡ [] }
-        ensures bindings { result.bindings ≡ [] }
+    /// A search that has room for so many steps.
+    pub fn with_room(alloc: Global, most: usize) -> Result<Search, AllocError>
+        ensures steps { IfOk result (λ s. s.steps.items ≡ []) }
+        ensures bindings { IfOk result (λ s. s.bindings ≡ []) }
     {
-        Search {
-            steps: Vec::new(alloc),
+        Ok(Search {
+            steps: Vec::with_capacity(alloc, most)?,
             bindings: Bindings::new(alloc),
-        }
+        })
     }
 
     /// Whether there is a way through all pieces; the first one is then made.
@@ -427,7 +428,7 @@ fn call_at(calls: &[Call], place: usize) -> Option<&Call>
 }
 
 /// What holds of a function's arguments, for the proofs of callers; it does nothing.
-fn lawful_arguments(call: &Call)
+pub fn lawful_arguments(call: &Call)
     ensures { AreArguments call.now.pieces }
 {
     let _ = call.pieces();
@@ -675,7 +676,7 @@ fn attempt_single(
 }
 
 /// The pieces of the first of these arguments, and those behind it; none where there are no arguments.
-fn first_argument(pieces: &[Piece]) -> Option<(&[Piece], &[Piece])>
+pub fn first_argument(pieces: &[Piece]) -> Option<(&[Piece], &[Piece])>
     requires { AreArguments pieces.now }
     ensures { IsFirstOf pieces.now (option_map (λ parts. (parts.0.now, parts.1.now)) result) }
 {
@@ -743,7 +744,7 @@ fn attempt_fixed(
 }
 
 /// Whether an argument is the one of this number, which has no wildcards.
-fn is_fixed_argument(fixed: &[Option<Call>], number: u32, part: &[Piece]) -> bool
+pub fn is_fixed_argument(fixed: &[Option<Call>], number: u32, part: &[Piece]) -> bool
     ensures { result ≡ is_fixed_argument_of (table_of fixed.now) number part.now }
 {
     match fixed.get(number as usize) {
@@ -777,7 +778,7 @@ fn attempt_any(
 }
 
 /// What is asked of a wildcard for an argument.
-fn ask_argument(
+pub fn ask_argument(
     bindings: &mut Bindings,
     sort: Sort,
     name: &Name,

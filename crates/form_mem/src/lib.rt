@@ -12,6 +12,3 @@ pub use gate::OpenGate;
 pub use library::{MemLibrary, SureLibrary};
 pub use sink::{MemSink, SureSink};
 pub use store::MemStore;
-
-#[cfg(test)]
-mod tests;

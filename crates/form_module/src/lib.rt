@@ -14,6 +14,3 @@ mod works;
 pub use error::ModuleError;
 pub use expression_set::{ExpressionSet, printed};
 pub use module::run_module;
-
-#[cfg(test)]
-mod tests;

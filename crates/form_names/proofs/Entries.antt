@@ -40,7 +40,7 @@ elements_at-values (pair ∷ pairs) zero = refl
 elements_at-values (pair ∷ pairs) (suc i) = elements_at-values pairs i
 
 -- a name that doesn't stand is passed over to the end
-passed_over : (n m : ℕ) → n ≤ m → cond (nat_lt n m) (Some n) None ≡ None → n ≡ m
+pub passed_over : (n m : ℕ) → n ≤ m → cond (nat_lt n m) (Some n) None ≡ None → n ≡ m
 passed_over n m within none = by (nat_lt n m) refl
   where
     by : (b : Bool) → nat_lt n m ≡ b → n ≡ m

@@ -11,6 +11,3 @@ pub use elements::{Elements, Ids, Numbers};
 pub(crate) use facts::Facts;
 pub use kind::{Dimension, Kind};
 pub use names::{DeclareError, Names};
-
-#[cfg(test)]
-mod tests;

@@ -1,4 +1,5 @@
 ghost use Rattle.std.specs.Prelude.{◌≡◌, ◌<◌, ◌-◌, ◌^◌, ◌++◌, [], ◌∷◌, None, Some, Err, IfOk, IfSome, OnOk, OnErr, length, option_copied};
+ghost use Rattle.form_names.specs.Letters.{noted};
 ghost use Rattle.form_names.specs.Names.{lookup, kind_at, dimension_of, dimension_at, elements_at, name_at, declare, declare_set, has_elements, entry_of, IsKind, IsDimension, AreElements, IsLawful};
 
 use crate::{Dimension, Elements, Facts, Kind};
@@ -29,18 +30,22 @@ impl From<AllocError> for DeclareError {
 /// The names of a program: a list in order of declaration, in which an `Id` is a position.
 #[derive(Drop)]
 pub struct Names {
+    alloc: Global,
     facts: IndexMap<String, Facts>,
+    /// Those of one letter, which are looked up most: their positions, each with 1 added, and 0 where none stands.
+    letters: [u32; 256],
 }
 
 impl Model for Names {
-    ghost use Rattle.std.specs.Prelude.{◌<◌, ◌^◌, List, length};
+    ghost use Rattle.std.specs.Prelude.{◌≡◌, ◌<◌, ◌^◌, List, length};
+    ghost use Rattle.form_names.specs.Letters.{IsTable};
     ghost use Rattle.form_names.specs.Names.{Entry, entries_of, AreLawful};
 
     ghost Value = { List Entry };
 
     ghost view = { λ names. entries_of names.facts.entries };
 
-    ghost invariant = { λ names. (length (entries_of names.facts.entries) < 2 ^ 32) × AreLawful (entries_of names.facts.entries) };
+    ghost invariant = { λ names. (length (entries_of names.facts.entries) < 2 ^ 32) × AreLawful (entries_of names.facts.entries) × (length names.letters ≡ 256) × IsTable names.letters (entries_of names.facts.entries) };
 }
 
 impl Names {
@@ -48,7 +53,9 @@ impl Names {
         ensures { result ≡ [] }
     {
         Names {
+            alloc,
             facts: IndexMap::new(alloc),
+            letters: [0; 256],
         }
     }
 
@@ -120,12 +127,41 @@ impl Names {
         ensures last { OnOk result (self.new ≡ self.old ++ entry_of name facts ∷ []) }
         ensures unchanged { OnErr result (self.new ≡ self.old) }
     {
-        let (position, _) = self.facts.insert_full(name.into_string(), facts)?;
+        let text = String::from_str(self.alloc, name.as_str())?;
+        let (position, _) = self.facts.insert_full(text, facts)?;
+        note(
+            &mut self.letters,
+            name.as_str().as_bytes(),
+            position as u32 + 1,
+        );
         Ok(Id::new(position as u32))
     }
 
     /// The first position at which the name stands.
     pub fn lookup(&self, name: &str) -> Option<Id>
+        ensures found { result ≡ lookup self.now name.now }
+        ensures within { IfSome result (λ id. id < length self.now) }
+    {
+        match name.as_bytes() {
+            [letter] => self.letter(*letter),
+            _ => self.stored(name),
+        }
+    }
+
+    /// That of a name of one letter.
+    fn letter(&self, letter: u8) -> Option<Id>
+        ensures found { result ≡ lookup self.now (letter ∷ []) }
+        ensures within { IfSome result (λ id. id < length self.now) }
+    {
+        let number = self.letters[usize::from(letter)];
+        if number == 0 {
+            return None;
+        }
+        Some(Id::new(number - 1))
+    }
+
+    /// That of any name.
+    fn stored(&self, name: &str) -> Option<Id>
         ensures found { result ≡ lookup self.now name.now }
         ensures within { IfSome result (λ id. id < length self.now) }
     {
@@ -168,5 +204,15 @@ impl Names {
     {
         let (name, _) = self.facts.get_index(id.position() as usize).unwrap();
         name.as_str()
+    }
+}
+
+/// Notes the number of a name in a table of those of one letter, where it is one.
+fn note(letters: &mut [u32; 256], name: &[u8], number: u32)
+    ensures { letters.new ≡ noted letters.old name.now number }
+{
+    match name {
+        [letter] => letters[usize::from(*letter)] = number,
+        _ => {}
     }
 }

@@ -48,7 +48,7 @@ reduced_again f l =
     let below : f.denominator / 1 ≡ f.denominator = omega arith in
     rw (l.is_coprime, over_one f.numerator, below, le-leb _ _ l.is_small_above, le-leb _ _ l.is_small_below) refl
 
-multiply_one : (f : Fraction) → IsLowest f → multiply f (whole (pos 1)) ≡ Some f
+pub multiply_one : (f : Fraction) → IsLowest f → multiply f (whole (pos 1)) ≡ Some f
 unfolding multiply
 multiply_one f l =
     let d : f.denominator * 1 ≡ f.denominator = omega arith in
@@ -77,14 +77,14 @@ no_zeros (d ∷ ds) e =
 pub no_zeros_in : (ds : List Delta) → list_any is_fixed ds ≡ false → (list_any is_zero ds || false) ≡ false
 no_zeros_in ds e = rw (no_zeros ds e) refl
 
-all_kept : (ds : List Delta) → list_any is_fixed ds ≡ false → filter (λ d. not (is_one d)) ds ≡ ds
+pub all_kept : (ds : List Delta) → list_any is_fixed ds ≡ false → filter (λ d. not (is_one d)) ds ≡ ds
 all_kept [] e = refl
 all_kept (d ∷ ds) e =
     let both = either_false (is_fixed d) (list_any is_fixed ds) e in
     let here = either_false (is_one d) (is_zero d) both.0 in
     rw here.0 (ap (λ xs. d ∷ xs) (all_kept ds both.1))
 
-odd : (b : Bool) → (sum ((if b then 1 else 0) ∷ 0 ∷ []) % 2 == 1) ≡ b
+pub odd : (b : Bool) → (sum ((if b then 1 else 0) ∷ 0 ∷ []) % 2 == 1) ≡ b
 odd true = refl
 odd false = refl
 
@@ -103,7 +103,7 @@ others_kept t ps lawful e =
     λ i. record { is_imaginary = imaginary i; dots = dots i; components = components i; deltas = deltas i; functions = functions i; word = word i }
 
 -- a term within the limits
-within : (t : Term) → IsTerm t → limited t ≡ Ok t
+pub within : (t : Term) → IsTerm t → limited t ≡ Ok t
 within t lawful =
     rw (are_in_range_from t.symbols lawful.in_range, are_dots_in_range_from t.others.dots lawful.others.dots_in_range, le-leb (size t) 4096 lawful.small, le-leb (depth t) 64 lawful.shallow) refl
 
@@ -196,7 +196,7 @@ power_made m p lowest lawful after there e =
 
 -- ---- 1 times a factor
 
-one_is_lowest : IsLowest (whole (pos 1))
+pub one_is_lowest : IsLowest (whole (pos 1))
 unfolding gcd divisor_from
 one_is_lowest = record { is_over_some = omega arith; is_coprime = refl; is_small_above = omega arith; is_small_below = omega arith }
 

@@ -1,4 +1,5 @@
 pub mod Dots
+pub mod Functions
 pub mod Large
 pub mod Lasting
 pub mod Limits

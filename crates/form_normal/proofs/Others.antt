@@ -34,7 +34,7 @@ sum_append : (ms ns : List ℕ) → sum (ms ++ ns) ≡ sum ms + sum ns
 sum_append [] ns = omega arith
 sum_append (m ∷ ms) ns = let e = sum_first m (ms ++ ns) in let f = sum_first m ms in let rest = sum_append ms ns in omega (arith, e, f, rest)
 
-sizes_append : (cs ds : List Call) → sum (map size_of_call (cs ++ ds)) ≡ sum (map size_of_call cs) + sum (map size_of_call ds)
+pub sizes_append : (cs ds : List Call) → sum (map size_of_call (cs ++ ds)) ≡ sum (map size_of_call cs) + sum (map size_of_call ds)
 sizes_append [] ds = omega arith
 sizes_append (c ∷ cs) ds =
     let e = sum_first (size_of_call c) (map size_of_call (cs ++ ds)) in

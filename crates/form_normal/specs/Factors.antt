@@ -1,9 +1,12 @@
 -- What the factors of a product have.
-use Rattle.std.specs.Prelude.{◌≡◌, ◌<◌, ◌≤◌, ◌^◌, nat_abs, false, List, All}
+use Rattle.std.specs.Prelude.{◌≡◌, ◌<◌, ◌≤◌, ◌+◌, ◌^◌, nat_abs, Bool, false, not, List, All}
+use Rattle.std.specs.List.{list_any}
 use Rattle.std.specs.List.Sorted.{IsStrictlySortedBy}
 use Rattle.std.specs.Ordering.{is_gt}
 use Rattle.form_term.specs.declared.power.Power.{Power}
-use Rattle.form_term.specs.Term.{Others, RiseFrom, RisesBy, IsCall, pair_order, index_order, component_order, delta_order, call_order, depth_of_others, size_of_others, largest_exponent, largest_depth}
+use Rattle.form_term.specs.Pieces.{deepest}
+use Rattle.form_term.specs.Term.{Term, Call, Others, RiseFrom, RisesBy, IsCall, pair_order, index_order, component_order, delta_order, call_order, depth_of_others, size, size_of_call, size_of_others, largest_exponent, largest_size, largest_depth}
+use Rattle.form_normal.specs.Product.{is_fixed}
 
 abbrev pub IsPresent : Power → Type 0
 IsPresent p = 0 < nat_abs p.exponent
@@ -30,3 +33,13 @@ pub record AreJoined (o : Others) : Type 0 where
   pub word : All IsCall o.word
   pub shallow : depth_of_others o < largest_depth
   pub small : size_of_others o < 2 ^ 32
+
+-- a function may be a further factor of a term as it stands
+pub record HasRoom (t : Term) (c : Call) : Type 0 where
+  pub small : size t + size_of_call c ≤ largest_size
+  pub shallow : deepest 0 c.pieces < largest_depth
+  pub unfixed : list_any is_fixed t.others.deltas ≡ false
+
+-- a function is no higher than another
+abbrev pub is_upto : Call → Call → Bool
+is_upto c d = not (is_gt (call_order c d))

@@ -4,7 +4,8 @@ use Rattle.std.specs.List.{range_with_len, list_all, list_any}
 use Rattle.form_base.specs.declared.cause.Cause.{Cause}
 use Rattle.form_base.specs.declared.cause.Cause.TheVariants.{Overflow, PowerRange, TermSize}
 use Rattle.form_frac.specs.Fraction.{Fraction, whole, multiply, negate}
-use Rattle.form_term.specs.Term.{Term, Others, one, symbol_power, exponent_of, reach_of, powers_of, imaginary_exponent, component_order, delta_order, call_order, largest_exponent, largest_size, largest_depth, size, depth}
+use Rattle.form_term.specs.Factor.{function_factor, non_commuting_factor}
+use Rattle.form_term.specs.Term.{Term, Others, Call, one, symbol_power, exponent_of, reach_of, powers_of, imaginary_exponent, component_order, delta_order, call_order, largest_exponent, largest_size, largest_depth, size, depth}
 use Rattle.form_term.specs.declared.power.Power.{Power}
 use Rattle.form_term.specs.declared.power.DotPower.{DotPower}
 use Rattle.form_term.specs.declared.index.Index.{Index}
@@ -123,6 +124,18 @@ number_alone number = record { coefficient = number; term = one }
 -- a power of a symbol as a factor
 abbrev pub power_alone : Power → Monomial
 power_alone power = record { coefficient = whole (pos 1); term = symbol_power power.symbol power.exponent }
+
+-- a commuting and a non-commuting function as a factor
+abbrev pub function_alone : Call → Monomial
+function_alone c = record { coefficient = whole (pos 1); term = function_factor c }
+
+abbrev pub word_alone : Call → Monomial
+word_alone c = record { coefficient = whole (pos 1); term = non_commuting_factor c }
+
+-- a factor is what 1 gives with it, and what it gives as a product alone
+pub record StandsAlone (m : Monomial) : Type 0 where
+  pub by_one : product_of (record { coefficient = whole (pos 1); term = one }) m ≡ Ok (Some m)
+  pub alone : product (m ∷ []) ≡ Ok (Some m)
 
 -- What multiplying by a factor answered, where the front was old and is new: whether there is a product, or why it is
 -- refused. Without a product the front is as it was.

@@ -1,16 +1,21 @@
 //! Products with a single factor, made in place where they can be.
-ghost use Rattle.std.specs.Prelude.{◌≡◌, ◌≤◌, ◌<◌, ◌++◌, nat_abs, [], ◌∷◌, false};
+ghost use Rattle.std.specs.Prelude.{◌≡◌, ◌≤◌, ◌<◌, ◌++◌, nat_abs, length, [], ◌∷◌, false, Ok, Some, IfOk, IfSome, OnSome};
 ghost use Rattle.std.specs.Bool.{OnTrue};
-ghost use Rattle.std.specs.List.{list_any};
-ghost use Rattle.form_term.specs.Term.{IsTerm, largest_exponent};
+ghost use Rattle.std.specs.List.{list_any, prefix_len};
+ghost use Rattle.form_term.specs.Term.{IsTerm, size, largest_exponent, largest_size};
 ghost use Rattle.form_term.specs.Terms.{term};
-ghost use Rattle.form_normal.specs.Product.{is_fixed as is_fixed_of, number_alone, power_alone, Multiplies};
+ghost use Rattle.form_normal.specs.Factors.{HasRoom, is_upto};
+ghost use Rattle.form_normal.specs.Product.{is_fixed as is_fixed_of, number_alone, power_alone, function_alone, word_alone, product_of, Multiplies, StandsAlone};
 
 use crate::products::{LARGEST_SIZE, ProductError, is_one, is_zero, product};
 use form_base::Cause;
 use form_frac::Frac;
-use form_term::{Delta, Monomial, Power, Term};
-use std::alloc::Global;
+use form_term::{Call, Delta, Monomial, Power, Term};
+use std::alloc::{AllocError, Global};
+use std::cmp::Ordering;
+
+/// How deep a term may be.
+const LARGEST_DEPTH: usize = 64;
 
 /// Multiplies a term with its coefficient by a factor. Answers false where the product is 0.
 pub fn multiply(
@@ -70,6 +75,80 @@ pub fn multiply_by_power(
         term: Term::symbol(alloc, power.symbol, power.exponent)?,
     };
     multiply(alloc, front, &factor)
+}
+
+/// A term with its coefficient times a commuting function; none where the product isn't made so: it is past the limits of
+/// terms, or there are deltas of two fixed indices.
+pub fn times_function(
+    alloc: Global,
+    front: Monomial,
+    call: Call,
+) -> Result<Option<Monomial>, AllocError>
+    ensures product { IfOk result (λ made. IfSome made (λ m. product_of front (function_alone call) ≡ Ok (Some m))) }
+    ensures alone { IfOk result (λ made. OnSome made (StandsAlone (function_alone call))) }
+{
+    front.laws();
+    let _ = call.pieces();
+    if !has_room(&front.term, &call) {
+        return Ok(None);
+    }
+    let place = place_of(front.term.functions(), &call);
+    let Monomial { coefficient, term } = front;
+    let term = term.with_function(alloc, place, call)?;
+    Ok(Some(Monomial { coefficient, term }))
+}
+
+/// The same with a non-commuting function.
+pub fn times_word(
+    alloc: Global,
+    front: Monomial,
+    call: Call,
+) -> Result<Option<Monomial>, AllocError>
+    ensures product { IfOk result (λ made. IfSome made (λ m. product_of front (word_alone call) ≡ Ok (Some m))) }
+    ensures alone { IfOk result (λ made. OnSome made (StandsAlone (word_alone call))) }
+{
+    front.laws();
+    let _ = call.pieces();
+    if !has_room(&front.term, &call) {
+        return Ok(None);
+    }
+    let Monomial { coefficient, term } = front;
+    let term = term.with_word(alloc, call)?;
+    Ok(Some(Monomial { coefficient, term }))
+}
+
+/// Whether a function may be a further factor of a term as it stands.
+fn has_room(front: &Term, call: &Call) -> bool
+    requires { size front.now ≤ largest_size }
+    ensures { OnTrue result (HasRoom front.now call.now) }
+{
+    if call.depth() >= LARGEST_DEPTH {
+        return false;
+    }
+    if call.size() > LARGEST_SIZE - front.size() {
+        return false;
+    }
+    if has_fixed(front.deltas()) {
+        return false;
+    }
+    true
+}
+
+/// How many of these functions are no higher than another, up to the first that is.
+fn place_of(calls: &[Call], call: &Call) -> usize
+    ensures within { result ≤ length calls.now }
+    ensures place { result ≡ prefix_len (λ other. is_upto other call.now) calls.now }
+{
+    calls
+        .iter()
+        .take_while(|other| is_no_higher(other, call))
+        .count()
+}
+
+fn is_no_higher(other: &Call, call: &Call) -> bool
+    ensures { result ≡ is_upto other.now call.now }
+{
+    other.cmp(call) != Ordering::Greater
 }
 
 /// Whether a power isn't 1 and can be put behind those of a term.

@@ -6,8 +6,5 @@ pub mod laws;
 mod merging;
 mod products;
 
-pub use factors::{multiply, multiply_by_number, multiply_by_power};
+pub use factors::{multiply, multiply_by_number, multiply_by_power, times_function, times_word};
 pub use products::{ProductError, product};
-
-#[cfg(test)]
-mod tests;

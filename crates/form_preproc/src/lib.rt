@@ -29,6 +29,3 @@ mod variables;
 
 pub use file::{Expanded, FileError, expand};
 pub use handed::Handed;
-
-#[cfg(test)]
-mod tests;

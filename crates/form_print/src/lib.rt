@@ -10,6 +10,3 @@ mod size;
 
 pub use factor::text_of;
 pub use print::print_expression;
-
-#[cfg(test)]
-mod tests;

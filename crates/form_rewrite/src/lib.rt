@@ -9,7 +9,4 @@ mod taken;
 mod weight;
 
 pub use take::take_out;
-pub use taken::{Cut, Cuts, Matches, Origin, Taken};
-
-#[cfg(test)]
-mod tests;
+pub use taken::{Cut, Cuts, Matches, Origin, Single, Taken};

@@ -1,4 +1,5 @@
-ghost use Rattle.std.specs.Prelude.{◌≡◌, ◌∷◌, ◌++◌, [], OnErr, OnOk, length};
+ghost use Rattle.std.specs.Prelude.{◌≡◌, ◌∷◌, ◌++◌, [], IfErr, IfOk, OnErr, OnOk, length};
+ghost use Rattle.form_rewrite.specs.Taking.{taken_so_far};
 
 use form_match::Bindings;
 use form_term::Term;
@@ -107,6 +108,22 @@ impl Matches {
         let Matches { matches } = self;
         matches
     }
+
+    /// The bindings of the match, where there is one alone.
+    fn into_only(self) -> Result<Bindings, Matches>
+        ensures only { IfOk result (λ bindings. self ≡ bindings ∷ []) }
+        ensures same { IfErr result (λ matches. matches ≡ self) }
+    {
+        let Matches { matches } = self;
+        let mut matches = matches;
+        if matches.len() != 1 {
+            return Err(Matches { matches });
+        }
+        match matches.pop() {
+            Some(only) => Ok(only),
+            None => Err(Matches { matches }),
+        }
+    }
 }
 
 /// What a pattern took out of a term.
@@ -119,4 +136,43 @@ pub struct Taken {
     pub matches: Matches,
     /// How many times each match was taken.
     pub times: u32,
+}
+
+/// What is left of a term, and what the wildcards of the one match stand for.
+#[derive(Drop)]
+pub struct Single {
+    pub left: Term,
+    pub bindings: Bindings,
+}
+
+impl Taken {
+    /// The match, where there is one, taken once, and no word is cut; else all as it is.
+    pub fn into_single(self) -> Result<Single, Taken>
+        ensures single { IfOk result (λ one. self ≡ taken_so_far one.left [] (one.bindings ∷ []) 1) }
+        ensures same { IfErr result (λ taken. taken ≡ self) }
+    {
+        let Taken {
+            left,
+            cuts,
+            matches,
+            times,
+        } = self;
+        if times != 1 || !cuts.as_slice().is_empty() {
+            return Err(Taken {
+                left,
+                cuts,
+                matches,
+                times,
+            });
+        }
+        match matches.into_only() {
+            Ok(bindings) => Ok(Single { left, bindings }),
+            Err(matches) => Err(Taken {
+                left,
+                cuts,
+                matches,
+                times,
+            }),
+        }
+    }
 }

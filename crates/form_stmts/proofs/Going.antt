@@ -3,7 +3,7 @@ use Rattle.std.proofs.Common.{◌≡◌, inl, inr, ℕ, true, false, List, [], �
 use Rattle.std.specs.Prelude.{OnOk, IfErr, IsTrue}
 use Rattle.std.proofs.lemmas.List.{append-nil, map-append}
 use Rattle.std.proofs.lemmas.Option.{same_Some}
-use Rattle.form_lexer.specs.Tokens.{AppendsTokens, AreTokens}
+use Rattle.form_lexer.specs.Tokens.{AreTokens}
 use Rattle.form_base.specs.declared.spot.Spot.{Spot}
 use Rattle.form_stmts.specs.Line.{PlacedLine}
 use Rattle.form_lexer.specs.declared.token.Token.{Token}
@@ -69,6 +69,11 @@ statement_refused old t Memory e h = tt
 statement_refused old t (BadSyntax spot) e h = λ lexed rest to.
     let here : items to.begun (token t ∷ rest) ≡ statement to.begun ∷ items [] rest = rw e refl in
     subst (λ (all : List Item). IsRefusedAt [] all spot) (all_behind lexed rest (token t)) (to.refused (token t ∷ rest) spot (subst (λ (all : List Item). IsRefusedAt old.statements.items all spot) (sym here) (inl (h to.begun to.has_begun))))
+
+pub semicolon_refused : {T : Type 0} (r : Result T ProgramError) (old : Reader) (t : Token) → is_semicolon t ≡ true
+    → IfErr r (λ error. (begun : List Token) → HasBegun old begun → IsRefusedItem old.statements.items (statement begun) error) → IfErr r (λ error. Refuses old (token t ∷ []) error)
+semicolon_refused (Ok x) old t e h = tt
+semicolon_refused (Err error) old t e h = statement_refused old t error e h
 
 module _ (old new : Reader) (t : Token) (e : is_semicolon t ≡ false) (h : (begun : List Token) → HasBegun old begun → HasBegun new (begun ++ t ∷ []))
     (statements : new.statements.items ≡ old.statements.items) (modules : new.modules.items ≡ old.modules.items) where
@@ -191,12 +196,11 @@ pub reads_none : (old : Reader) → ReadsOn old [] old
 reads_none old lexed to = subst (λ (all : List Lexed). ReadTo all old) (sym (append-nil lexed)) to
 
 -- what a line that begins with no period has
-pub is_tokens : (line : PlacedLine) (spot : Spot) (text : List ℕ) (old new tokens : List Token) → begins_with_period line.text ≡ false → AppendsTokens spot text old new
-    → spot ≡ line.spot → text ≡ line.text → old ≡ [] → tokens ≡ new → IsLexed line (map token tokens)
-is_tokens line spot text old new tokens e h s t o n =
-    let all : tokens ≡ h.tokens = n ∙ h.appended ∙ ap (λ (front : List Token). front ++ h.tokens) o in
-    let are : AreTokens line.spot line.text h.tokens = subst (λ (x : List ℕ). AreTokens line.spot x h.tokens) t (subst (λ (x : Spot). AreTokens x text h.tokens) s h.are_tokens) in
-    rw (e, all) (h.tokens, are, refl)
+pub has_tokens : (line : PlacedLine) (spot : Spot) (text : List ℕ) (tokens : List Token) → begins_with_period line.text ≡ false → AreTokens spot text tokens → spot ≡ line.spot → text ≡ line.text
+    → IsLexed line (map token tokens)
+has_tokens line spot text tokens e h s t =
+    let are : AreTokens line.spot line.text tokens = subst (λ (x : List ℕ). AreTokens line.spot x tokens) t (subst (λ (x : Spot). AreTokens x text tokens) s h) in
+    rw e (tokens, are, refl)
 
 -- a further token of a right side
 pub begun_on : (tokens begun : List Token) (t : Token) (o : Option RightSide) (old new : RightSide) → o ≡ Some old → ((read : List Terminal) → HasRead read old → HasRead (read ++ terminal_of t ∷ []) new)

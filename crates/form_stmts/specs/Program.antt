@@ -1,12 +1,14 @@
 -- The modules of lines, and where lines are refused.
-use Rattle.std.specs.Prelude.{◌≡◌, ◌⊎◌, List, [], ◌∷◌, ◌++◌, map, Bool, true, false, IsTrue, Option, Some, None, MatchBool, if◌then◌else◌, not, ◌||◌, ◌-◌, length, slice_get}
+use Rattle.std.specs.Prelude.{◌≡◌, ◌⊎◌, ℕ, List, [], ◌∷◌, ◌++◌, map, Bool, true, false, IsTrue, Option, Some, None, MatchBool, if◌then◌else◌, not, ◌||◌, ◌-◌, length, slice_get}
 use Rattle.form_base.specs.declared.spot.Spot.{Spot}
 use Rattle.form_stmts.specs.Line.{PlacedLine}
 use Rattle.form_lexer.specs.declared.mark.Mark as marks
 use Rattle.form_lexer.specs.declared.mark.Mark.TheVariants as by_mark
+use Rattle.form_lexer.specs.declared.shape.Shape.{Shape}
 use Rattle.form_lexer.specs.declared.token.Token.{Token}
 use Rattle.form_lexer.specs.declared.token.TokenKind.{TokenKind}
 use Rattle.form_lexer.specs.declared.token.TokenKind.TheVariants as by_kind
+use Rattle.form_lexer.specs.Reading.{kind_of}
 use Rattle.form_lexer.specs.Tokens.{AreTokens}
 use Rattle.form_ast.specs.declared.statement.Statement.{Statement}
 use Rattle.form_ast.specs.declared.statement.Statement.TheVariants.{Rewrite}
@@ -17,6 +19,10 @@ use Rattle.form_stmts.specs.declared.error.ProgramError.TheVariants.{BadSyntax, 
 use Rattle.form_stmts.specs.Begun.{begins_also}
 use Rattle.form_stmts.specs.Instruction.{begins_with_period, is_module_instruction}
 use Rattle.form_stmts.specs.Statement.{IsStatement}
+
+-- the token of this shape that is written so and stands here
+abbrev pub token_of : Spot → Shape → List ℕ → Token
+token_of spot shape text = record { kind = kind_of shape text; spot = spot }
 
 -- what lines have in order: tokens, and lines that begin with a period
 pub data Lexed : Type 0 where

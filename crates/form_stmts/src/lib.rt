@@ -17,6 +17,3 @@ pub use error::ProgramError;
 pub use keyword::Keyword;
 pub use line::Line;
 pub use program::read_program;
-
-#[cfg(test)]
-mod tests;

@@ -1,6 +1,7 @@
-ghost use Rattle.std.specs.Prelude.{◌≡◌, List, [], ◌∷◌, IfErr, IfOk, OnOk, IsTrue, IsNone, None, Option};
+ghost use Rattle.std.specs.Prelude.{◌≡◌, List, ℕ, [], ◌∷◌, IfErr, IfOk, OnOk, IsTrue, IsNone, None, Option, false};
 ghost use Rattle.form_ast.specs.Lawful.{AreLawfulModules};
-ghost use Rattle.form_stmts.specs.Program.{IsProgram, IsRefusal, IsLexed, Lexed, statement, token as lexed_token, period, is_semicolon as is_semicolon_token, first_spot as first_spot_of, ends_with_rewrite as ends_with_rewrite_of, may_stand as may_stand_there};
+ghost use Rattle.form_stmts.specs.Program.{IsProgram, IsRefusal, IsLexed, Lexed, statement, token as lexed_token, token_of, period, is_semicolon_kind, first_spot as first_spot_of, ends_with_rewrite as ends_with_rewrite_of, may_stand as may_stand_there};
+ghost use Rattle.form_lexer.specs.Reading.{kind_of};
 ghost use Rattle.form_stmts.specs.Line.{PlacedLine};
 
 use crate::instruction::{begins_with_period, is_module_instruction};
@@ -8,8 +9,8 @@ use crate::statement::{begins_also, begins_definition, read_begun};
 use crate::{Line, ProgramError};
 use form_ast::{Module, Placed, Statement};
 use form_base::Spot;
-use form_grammar::{ReadError, RightSide, Terminal};
-use form_lexer::{Mark, Token, TokenKind, laws, lex};
+use form_grammar::{ReadError, RightSide};
+use form_lexer::{Mark, Shape, Token, kind, laws, next_token};
 use std::alloc::Global;
 use std::mem;
 
@@ -25,10 +26,10 @@ struct Reader {
     modules: Vec<Module>,
 }
 
-fn is_semicolon(token: &Token) -> bool
-    ensures { result ≡ is_semicolon_token token.now }
+fn is_semicolon(shape: Shape) -> bool
+    ensures { (text : List ℕ) → result ≡ is_semicolon_kind (kind_of shape text) }
 {
-    matches!(token.kind, TokenKind::Mark(Mark::Semicolon))
+    matches!(shape, Shape::Mark(Mark::Semicolon))
 }
 
 /// Where tokens begin.
@@ -96,17 +97,35 @@ impl Reader {
         }
     }
 
-    fn take_token(&mut self, alloc: Global, token: Token) -> Result<(), ProgramError>
-        ensures read { OnOk result (ReadsOn self.old (lexed_token token ∷ []) self.new) }
-        ensures refused { IfErr result (λ error. Refuses self.old (lexed_token token ∷ []) error) }
+    /// Goes one token further, that of this shape that is written so and stands here.
+    fn take_token(
+        &mut self,
+        alloc: Global,
+        spot: Spot,
+        shape: Shape,
+        text: &str,
+    ) -> Result<(), ProgramError>
+        ensures read { OnOk result (ReadsOn self.old (lexed_token (token_of spot shape text.now) ∷ []) self.new) }
+        ensures refused { IfErr result (λ error. Refuses self.old (lexed_token (token_of spot shape text.now) ∷ []) error) }
     {
-        if is_semicolon(&token) {
+        if is_semicolon(shape) {
             return self.end_statement(alloc);
         }
         if let Some(right_side) = &mut self.right_side {
-            right_side.take(Terminal::from(token))?;
+            right_side.take_shape(spot, shape, text)?;
             return Ok(());
         }
+        let kind = kind(alloc, shape, text)?;
+        self.keep(alloc, Token { kind, spot })
+    }
+
+    /// Keeps a token of a statement that is begun, where no right side is.
+    fn keep(&mut self, alloc: Global, token: Token) -> Result<(), ProgramError>
+        requires token { is_semicolon_kind token.kind ≡ false }
+        requires none { self.old.right_side ≡ None }
+        ensures read { OnOk result (ReadsOn self.old (lexed_token token ∷ []) self.new) }
+        ensures refused { IfErr result (λ error. Refuses self.old (lexed_token token ∷ []) error) }
+    {
         self.tokens.push(token)?;
         if begins_definition(&self.tokens) {
             self.right_side = Some(RightSide::new(alloc));
@@ -137,10 +156,12 @@ impl Reader {
         if begins_with_period(line.text().as_bytes()) {
             return self.take_instruction(alloc, line);
         }
-        let mut tokens = Vec::new(alloc);
-        lex(alloc, line.spot(), line.text(), &mut tokens)?;
-        for token in tokens {
-            self.take_token(alloc, token)?;
+        laws::one_list_of_tokens();
+        let spot = line.spot();
+        let mut rest = line.text();
+        while let Some((shape, text, others)) = next_token(rest) {
+            self.take_token(alloc, spot, shape, text)?;
+            rest = others;
         }
         Ok(())
     }

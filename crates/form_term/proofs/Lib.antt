@@ -5,6 +5,7 @@ pub mod Dots
 pub mod Inside
 pub mod Left
 pub mod Nesting
+pub mod Numbers
 pub mod Parts
 pub mod Ranks
 pub mod ReadBack

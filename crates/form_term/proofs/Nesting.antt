@@ -1,6 +1,6 @@
 -- Nesting: lawful arguments make a lawful function.
 use Rattle.std.proofs.Common.{◌≡◌, ℕ, zero, suc, ◌+◌, List, [], ◌∷◌, ◌++◌, refl, ap, sym, ◌∙◌, subst, arith, append-nil, append_assoc, drop, length, get_or, ◌<◌}
-use Rattle.std.specs.Prelude.{All, false, flat_map}
+use Rattle.std.specs.Prelude.{All, false, flat_map, nat_abs, ◌≤◌}
 use Rattle.std.specs.List.{AllByRecursion}
 use Rattle.std.specs.List.Sorted.{IsStrictlySortedBy}
 use Rattle.std.specs.Ordering.{on}
@@ -11,8 +11,10 @@ use Rattle.std.proofs.lemmas.List.{drop_more}
 use Rattle.form_frac.specs.Fraction.{IsLowest, is_zero}
 use Rattle.form_term.specs.declared.monomial.Monomial.{Monomial}
 use Rattle.form_term.specs.declared.piece.Piece.{Piece}
+use Rattle.form_term.specs.declared.power.Power.{Power}
 use Rattle.form_term.specs.Monomial.{summands_of}
-use Rattle.form_term.specs.Term.{Term, Call, Summand, Argument, index, vector, expression, IsTerm, IsTermOf, IsExpressionOf, IsExpression, IsArgumentOf, ArePiecesOf, AreArguments, IsCallTo, IsCall, order, pieces_of_summand, pieces_of_argument, pieces_of_arguments}
+use Rattle.form_term.specs.Term.{Term, Call, Summand, Argument, index, vector, expression, IsTerm, IsTermOf, IsExpressionOf, IsExpression, IsArgumentOf, ArePiecesOf, AreArguments, IsCallTo, IsCall, order, one, largest_exponent, pieces_of_summand, pieces_of_argument, pieces_of_arguments}
+use Rattle.form_term.specs.TermLaws.{symbols_lawful}
 
 -- What holds at some number.
 record Somewhere {A : Type 0} (P : ℕ → A → Type 0) (x : A) : Type 0 where
@@ -188,3 +190,16 @@ term_put old new ms i m is within e =
     ap (λ ps. ps ++ flat_map pieces_of_summand (summands_of (drop (i + 1) ms))) e
     ∙ append_assoc old (pieces_of_summand (record { coefficient = m.coefficient; term = m.term })) (flat_map pieces_of_summand (summands_of (drop (i + 1) ms)))
     ∙ ap (λ xs. old ++ flat_map pieces_of_summand (summands_of xs)) (sym here)
+
+-- an expression of one term
+pub alone_lawful : (s : Summand) → is_zero s.coefficient ≡ false → IsLowest s.coefficient → IsTerm s.term → IsExpression (s ∷ [])
+unfolding IsStrictlySortedBy
+alone_lawful s present lowest lawful = record {
+  rising = (tt, tt);
+  present = All-cons (λ (s : Summand). is_zero s.coefficient ≡ false) s [] present (All-nil (λ (s : Summand). is_zero s.coefficient ≡ false));
+  lowest = All-cons (λ (s : Summand). IsLowest s.coefficient) s [] lowest (All-nil (λ (s : Summand). IsLowest s.coefficient));
+  terms = All-cons (λ (s : Summand). IsTerm s.term) s [] lawful (All-nil (λ (s : Summand). IsTerm s.term));
+}
+
+pub one_lawful : IsTerm one
+one_lawful = symbols_lawful [] (tt, All-nil (λ (p : Power). 0 < nat_abs p.exponent)) (All-nil (λ (p : Power). nat_abs p.exponent ≤ largest_exponent)) (omega arith)

@@ -1,5 +1,5 @@
 -- What the factors of a term feed to a hasher.
-use Rattle.std.specs.Prelude.{ℕ, List, [], ◌∷◌, ◌++◌, if◌then◌else◌}
+use Rattle.std.specs.Prelude.{ℕ, List, ◌++◌}
 use Rattle.std.specs.Hash as fed
 use Rattle.form_term.specs.declared.power.Power.{Power}
 use Rattle.form_term.specs.contracts.power.PowerHash.TheImpl as powers
@@ -12,10 +12,10 @@ use Rattle.form_term.specs.Term.{Others}
 abbrev pub fed_powers : List Power → List (List ℕ)
 fed_powers ps = fed.slice powers.ghosts.hash_input ps
 
+-- all but whether `i_` is there
 abbrev pub fed_others : Others → List (List ℕ)
 fed_others o =
-    ((if o.is_imaginary then 1 else 0) ∷ []) ∷ []
-    ++ fed.slice dots.ghosts.hash_input o.dots
+    fed.slice dots.ghosts.hash_input o.dots
     ++ fed.slice components.ghosts.hash_input o.components
     ++ fed.slice deltas.ghosts.hash_input o.deltas
     ++ fed.slice calls.ghosts.hash_input o.functions

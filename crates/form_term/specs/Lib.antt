@@ -4,6 +4,7 @@ pub mod Calls
 pub mod Factor
 pub mod FactorLaws
 pub mod Factors
+pub mod FedPieces
 pub mod Feeding
 pub mod Monomial
 pub mod Pieces

@@ -26,3 +26,8 @@ first_length (part ∷ parts) = length part
 abbrev pub begins_sum : List Piece → Bool
 begins_sum (pieces.Sum ∷ ps) = true
 begins_sum ps = false
+
+-- the coefficient of an argument that is a number
+abbrev pub coefficient_of : List Piece → Option Coefficient
+coefficient_of (pieces.Sum ∷ pieces.EndOfTerm c ∷ pieces.EndOfSum ∷ []) = Some c
+coefficient_of ps = None

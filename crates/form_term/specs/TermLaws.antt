@@ -20,7 +20,12 @@ use Rattle.form_term.specs.declared.index.Delta.{Delta}
 use Rattle.form_term.specs.declared.piece.Coefficient.{Coefficient}
 use Rattle.form_term.specs.declared.piece.Piece.{Piece}
 use Rattle.form_term.specs.declared.piece.Piece.TheVariants as pieces
+use Rattle.form_term.specs.contracts.power.PowerOrd.TheImpl.Laws as power_laws
+use Rattle.form_term.specs.contracts.power.PowerPartialEq.TheImpl as power_equality
+use Rattle.form_term.specs.contracts.piece.CoefficientOrd.TheImpl.Laws as coefficient_laws
+use Rattle.form_term.specs.contracts.piece.CoefficientPartialEq.TheImpl as coefficient_equality
 use Rattle.form_term.specs.contracts.piece.PieceOrd.TheImpl.Laws as piece_laws
+use Rattle.form_term.specs.contracts.piece.PiecePartialEq.TheImpl as piece_equality
 use Rattle.form_term.specs.contracts.index.ComponentOrd.TheImpl.Laws as component_laws
 use Rattle.form_term.specs.contracts.index.DeltaOrd.TheImpl.Laws as delta_laws
 use Rattle.form_term.specs.Pieces.{piece_order, piece_of_dot}
@@ -267,6 +272,16 @@ same_terms = eq_by_cmp_equiv order_total
 
 true_from : {b : Bool} → IsTrue b → b ≡ true
 true_from h = search rules
+
+-- equal powers, coefficients and pieces are fed alike
+pub powers_alike : {X : Type 0} (feed : Power → X) (p q : Power) → IsTrue (power_equality.ghosts.eq p q) → feed p ≡ feed q
+powers_alike feed p q same = ap feed (powers_equal p q ((Equal-is (piece_order (pieces.Negative p) (pieces.Negative q))).0 (sym (power_laws.matches_eq-law p q) ∙ true_from same)))
+
+pub coefficients_alike : {X : Type 0} (feed : Coefficient → X) (c d : Coefficient) → IsTrue (coefficient_equality.ghosts.eq c d) → feed c ≡ feed d
+coefficients_alike feed c d same = ap feed (coefficients_equal c d ((Equal-is (piece_order (pieces.EndOfTerm c) (pieces.EndOfTerm d))).0 (sym (coefficient_laws.matches_eq-law c d) ∙ true_from same)))
+
+pub pieces_alike : {X : Type 0} (feed : Piece → X) (p q : Piece) → IsTrue (piece_equality.ghosts.eq p q) → feed p ≡ feed q
+pieces_alike feed p q same = ap feed (pieces_equal p q ((Equal-is (piece_order p q)).0 (sym (piece_laws.matches_eq-law p q) ∙ true_from same)))
 
 -- equal functions are fed alike
 pub calls_alike : {X : Type 0} (feed : Call → X) (c d : Call) → IsTrue (eq_by_cmp call_order c d) → feed c ≡ feed d

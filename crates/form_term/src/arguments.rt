@@ -1,4 +1,4 @@
-ghost use Rattle.std.specs.Prelude.{◌≡◌, ◌++◌, [], ◌∷◌, false, map, flat_map, All, IfOk, OnOk};
+ghost use Rattle.std.specs.Prelude.{◌≡◌, ◌<◌, ◌≤◌, ◌++◌, [], ◌∷◌, false, nat_abs, map, flat_map, All, IfOk, OnOk};
 ghost use Rattle.std.specs.List.Sorted.{IsStrictlySortedBy};
 ghost use Rattle.std.specs.Ordering.{on};
 ghost use Rattle.form_frac.specs.Fraction.{IsLowest, is_zero};
@@ -6,10 +6,11 @@ ghost use Rattle.form_term.specs.declared.piece.Piece.TheVariants as marks;
 ghost use Rattle.form_term.specs.Calls.{call};
 ghost use Rattle.form_term.specs.Pieces.{piece_of_power, piece_of_dot};
 ghost use Rattle.form_term.specs.Term as terms;
-ghost use Rattle.form_term.specs.Monomial.{summands_of};
+ghost use Rattle.form_term.specs.Monomial.{summands_of, number_argument, power_argument};
 
 use crate::{Call, Coefficient, Component, Delta, DotPower, Index, Monomial, Piece, Power, Term};
 use form_base::Id;
+use form_frac::Frac;
 use std::alloc::{AllocError, Global};
 use std::marker::Model;
 
@@ -90,6 +91,30 @@ impl Arguments {
         Ok(Arguments { pieces })
     }
 
+    /// These and one more, the expression that is this number.
+    pub fn with_number(self, number: Frac) -> Result<Arguments, AllocError>
+        requires { is_zero number ≡ false }
+        ensures { IfOk result (λ all. all ≡ self ++ terms.pieces_of_argument (number_argument number)) }
+    {
+        let Arguments { mut pieces } = self;
+        let end = end_of_term(number);
+        pieces.extend_from_slice(&[Piece::Sum, end, Piece::EndOfSum])?;
+        Ok(Arguments { pieces })
+    }
+
+    /// These and one more, the expression that is this power of a symbol.
+    pub fn with_power(self, power: Power) -> Result<Arguments, AllocError>
+        requires present { 0 < nat_abs power.exponent }
+        requires in_range { nat_abs power.exponent ≤ terms.largest_exponent }
+        ensures { IfOk result (λ all. all ≡ self ++ terms.pieces_of_argument (power_argument power)) }
+    {
+        let Arguments { mut pieces } = self;
+        let factor = Piece::of_power(power);
+        let end = end_of_term(Frac::one());
+        pieces.extend_from_slice(&[Piece::Sum, factor, end, Piece::EndOfSum])?;
+        Ok(Arguments { pieces })
+    }
+
     /// The function with these arguments.
     pub fn into_call(self, function: Id) -> Result<Call, AllocError>
         ensures { IfOk result (λ c. c ≡ call function self) }
@@ -97,6 +122,17 @@ impl Arguments {
         let Arguments { pieces } = self;
         Call::from_pieces(function, pieces)
     }
+}
+
+/// The end of a term with this coefficient.
+fn end_of_term(number: Frac) -> Piece
+    ensures piece { result ≡ marks.EndOfTerm (record { numerator = number.numerator; denominator = number.denominator }) }
+    ensures lowest { IsLowest number }
+{
+    Piece::EndOfTerm(Coefficient {
+        numerator: number.numerator(),
+        denominator: number.denominator(),
+    })
 }
 
 fn put_expression(pieces: &mut Vec<Piece>, list: &[Monomial]) -> Result<(), AllocError>

@@ -1,6 +1,7 @@
-ghost use Rattle.std.specs.Prelude.{◌≡◌, IfOk};
+ghost use Rattle.std.specs.Prelude.{◌≡◌, suc, IfOk};
 ghost use Rattle.form_term.specs.Term.{IsCall, size_of_call};
-ghost use Rattle.form_term.specs.Pieces.{deepest};
+ghost use Rattle.form_term.specs.Pieces.{size_of_pieces, deepest};
+ghost use Rattle.form_term.specs.Calls.{kept};
 
 use crate::Piece;
 use form_base::Id;
@@ -14,19 +15,29 @@ use std::sync::ArcSlice;
 #[derive(Debug, Drop)]
 pub struct Call {
     function: Id,
+    /// How many factors it counts as, and how deep it is, each at most `MOST`.
+    size: u16,
+    depth: u16,
     pieces: ArcSlice<Piece>,
 }
 
+/// The largest size and depth that a function keeps: where they may be larger, its pieces are counted again.
+const MOST: u16 = u16::MAX;
+
 impl Model for Call {
     ghost use Rattle.form_term.specs.Term as terms;
-    ghost use Rattle.form_term.specs.Calls.{call};
+    ghost use Rattle.form_term.specs.Calls.{call, kept};
+    ghost use Rattle.form_term.specs.Pieces.{deepest};
     ghost use Rattle.std.specs.Arc.{arc_slice_items};
+    ghost use Rattle.std.specs.Prelude.{◌≡◌};
 
     ghost Value = { terms.Call };
 
     ghost view = { λ c. call c.function (arc_slice_items c.pieces) };
 
-    ghost invariant = { λ c. terms.IsCall (call c.function (arc_slice_items c.pieces)) };
+    ghost invariant = { λ c. terms.IsCall (call c.function (arc_slice_items c.pieces))
+        × (c.size ≡ kept (terms.size_of_call (call c.function (arc_slice_items c.pieces))))
+        × (c.depth ≡ kept (deepest 0 (arc_slice_items c.pieces))) };
 }
 
 impl Call {
@@ -37,8 +48,12 @@ impl Call {
         requires { IsCall (call function pieces.items) }
         ensures { IfOk result (λ c. c ≡ call function pieces.items) }
     {
+        let size = saturated(size_with(&pieces));
+        let depth = saturated(depth_of(&pieces));
         Ok(Call {
             function,
+            size,
+            depth,
             pieces: ArcSlice::from_vec(pieces)?,
         })
     }
@@ -62,24 +77,55 @@ impl Call {
     pub fn size(&self) -> usize
         ensures { result ≡ size_of_call self.now }
     {
-        1 + self.pieces().iter().filter(|piece| piece.counts()).count()
+        if self.size < MOST {
+            return usize::from(self.size);
+        }
+        size_with(self.pieces())
     }
 
     /// The depth of the deepest term in an argument, 0 without one.
     pub fn depth(&self) -> usize
         ensures { result ≡ deepest 0 self.now.pieces }
     {
-        let mut level: usize = 0;
-        let mut depth: usize = 0;
-        for piece in self.pieces() {
-            match piece {
-                Piece::Sum => level += 1,
-                Piece::EndOfSum => level = level.saturating_sub(1),
-                Piece::EndOfTerm(_) => depth = depth.max(level),
-                _ => {}
-            }
+        if self.depth < MOST {
+            return usize::from(self.depth);
         }
-        depth
+        depth_of(self.pieces())
+    }
+}
+
+/// How many factors a function counts as whose arguments have these pieces.
+fn size_with(pieces: &[Piece]) -> usize
+    ensures { result ≡ suc (size_of_pieces pieces.now) }
+{
+    1 + pieces.iter().filter(|piece| piece.counts()).count()
+}
+
+/// The depth of the deepest term in these arguments.
+fn depth_of(pieces: &[Piece]) -> usize
+    ensures { result ≡ deepest 0 pieces.now }
+{
+    let mut level: usize = 0;
+    let mut depth: usize = 0;
+    for piece in pieces {
+        match piece {
+            Piece::Sum => level += 1,
+            Piece::EndOfSum => level = level.saturating_sub(1),
+            Piece::EndOfTerm(_) => depth = depth.max(level),
+            _ => {}
+        }
+    }
+    depth
+}
+
+/// A size or a depth as it is kept.
+fn saturated(number: usize) -> u16
+    ensures { result ≡ kept number }
+{
+    if number < usize::from(MOST) {
+        number as u16
+    } else {
+        MOST
     }
 }
 
@@ -91,6 +137,8 @@ impl Clone for Call {
     fn clone(&self) -> Result<Call, AllocError> {
         Ok(Call {
             function: self.function,
+            size: self.size,
+            depth: self.depth,
             pieces: self.pieces.clone()?,
         })
     }

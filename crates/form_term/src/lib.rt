@@ -22,8 +22,5 @@ pub use order::compare;
 pub use others::Others;
 pub use piece::{Coefficient, Piece};
 pub use power::{DotPower, Power};
-pub use reading::{part_len, terms_in};
+pub use reading::{number_in, part_len, terms_in};
 pub use term::Term;
-
-#[cfg(test)]
-mod tests;

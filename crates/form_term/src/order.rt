@@ -1,4 +1,5 @@
 ghost use Rattle.std.specs.Prelude.{◌≡◌, ◌↔◌, ◌<◌, [], ◌∷◌, nat_abs, true};
+ghost use Rattle.std.specs.Ordering.{ordering_then};
 ghost use Rattle.form_term.specs.Term.{order, symbols_order, dots_order, others_order, end_of_term};
 ghost use Rattle.form_term.specs.SymbolLaws.{ArePowers};
 
@@ -13,7 +14,18 @@ pub fn compare(left: &Term, right: &Term) -> Ordering
 {
     let imaginary = left.is_imaginary().cmp(&right.is_imaginary());
     let symbols = compare_symbols(left.powers(), right.powers());
-    imaginary.then(symbols.then(compare_others(left, right)))
+    imaginary.then(or_by_others(symbols, left, right))
+}
+
+/// An order, and where it doesn't decide, that of the factors besides `i_` and powers of symbols.
+fn or_by_others(symbols: Ordering, left: &Term, right: &Term) -> Ordering
+    ensures { result ≡ ordering_then symbols (others_order left.now.others right.now.others) }
+{
+    match symbols {
+        Ordering::Less => Ordering::Less,
+        Ordering::Equal => compare_others(left, right),
+        Ordering::Greater => Ordering::Greater,
+    }
 }
 
 /// The order of these powers of symbols.

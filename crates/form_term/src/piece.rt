@@ -1,12 +1,29 @@
 use crate::{Component, Delta, DotPower, Index, Power};
 use form_base::Id;
 use std::cmp::Reverse;
+use std::hash::{Hash, Hasher};
 
 /// The coefficient of a term inside an argument, in lowest terms.
-#[derive(Clone, Copy, Debug, PartialEq, Eq, PartialOrd, Ord, Hash)]
+#[derive(Clone, Copy, Debug, PartialEq, Eq, PartialOrd, Ord)]
 pub struct Coefficient {
     pub numerator: i128,
     pub denominator: u128,
+}
+
+impl Hash for Coefficient {
+    ghost use Rattle.form_term.specs.FedPieces.{fed_coefficient};
+    ghost use Rattle.form_term.specs.TermLaws.{coefficients_alike};
+
+    ghost hash_input = { fed_coefficient };
+
+    ghost respects_eq = { coefficients_alike fed_coefficient };
+
+    fn hash<H: Hasher>(&self, state: &mut H) {
+        state.write_i128(self.numerator);
+        if self.denominator != 1 {
+            state.write_u128(self.denominator);
+        }
+    }
 }
 
 /// A piece of a function's arguments. They are kept flat, with marks where a sum, one of its terms and an inner
@@ -16,7 +33,7 @@ pub struct Coefficient {
 /// piece. A negative power is below the end of a term, as the symbol's exponent is 0 there, and a positive one is above
 /// it; so is each other factor, since of two lists of factors a prefix comes first. A positive power of an earlier
 /// symbol is above one of a later symbol.
-#[derive(Clone, Copy, Debug, PartialEq, Eq, PartialOrd, Ord, Hash)]
+#[derive(Clone, Copy, Debug, PartialEq, Eq, PartialOrd, Ord)]
 pub enum Piece {
     /// The arguments of an inner function end.
     EndOfArguments,
@@ -45,6 +62,48 @@ pub enum Piece {
     Vector(Id),
     /// An argument that is an expression begins; its terms follow.
     Sum,
+}
+
+impl Hash for Piece {
+    ghost use Rattle.form_term.specs.FedPieces.{fed_piece};
+    ghost use Rattle.form_term.specs.TermLaws.{pieces_alike};
+
+    ghost hash_input = { fed_piece };
+
+    ghost respects_eq = { pieces_alike fed_piece };
+
+    fn hash<H: Hasher>(&self, state: &mut H) {
+        match self {
+            Piece::EndOfArguments => state.write_u8(0),
+            Piece::EndOfSum => state.write_u8(1),
+            Piece::Negative(power) => power.hash(state),
+            Piece::NegativeDot(dot) => dot.hash(state),
+            Piece::EndOfTerm(coefficient) => coefficient.hash(state),
+            Piece::NonCommuting(function) => function.hash(state),
+            Piece::Function(function) => function.hash(state),
+            Piece::Delta(delta) => delta.hash(state),
+            Piece::Component(component) => component.hash(state),
+            Piece::PositiveDot(left, right, exponent) => {
+                left.0.hash(state);
+                Power {
+                    symbol: right.0,
+                    exponent: *exponent,
+                }
+                .hash(state);
+            }
+            Piece::Positive(symbol, exponent) => {
+                Power {
+                    symbol: symbol.0,
+                    exponent: *exponent,
+                }
+                .hash(state);
+            }
+            Piece::Imaginary => state.write_u8(2),
+            Piece::Index(index) => index.hash(state),
+            Piece::Vector(vector) => vector.hash(state),
+            Piece::Sum => state.write_u8(3),
+        }
+    }
 }
 
 impl Piece {

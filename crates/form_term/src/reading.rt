@@ -1,12 +1,12 @@
 //! Reading a function's arguments from their pieces.
-ghost use Rattle.std.specs.Prelude.{◌≡◌, ◌≤◌, ◌<◌, ◌-◌, ◌++◌, pos, List, [], ◌∷◌, length, take, drop, map, All, IfOk, OnOk};
+ghost use Rattle.std.specs.Prelude.{◌≡◌, ◌≤◌, ◌<◌, ◌-◌, ◌++◌, pos, List, [], ◌∷◌, length, take, drop, map, All, IfOk, IfSome, OnOk};
 ghost use Rattle.form_frac.specs.Fraction.{IsLowest, largest, make};
 ghost use Rattle.form_term.specs.declared.piece.Piece.{Piece};
 ghost use Rattle.form_term.specs.declared.piece.Piece.TheVariants as marks;
 ghost use Rattle.form_term.specs.Arguments.{arguments_of, before_last, first_summands, parts_of, summands_from, with_part};
 ghost use Rattle.form_term.specs.Calls.{call};
 ghost use Rattle.form_term.specs.Monomial.{as_monomial};
-ghost use Rattle.form_term.specs.Reading.{IsLawfulPart, begins_sum as begins_sum_of, end_in, first_length};
+ghost use Rattle.form_term.specs.Reading.{IsLawfulPart, begins_sum as begins_sum_of, coefficient_of, end_in, first_length};
 ghost use Rattle.form_term.specs.Term as terms;
 ghost use Rattle.form_term.specs.Term.{Argument, Call, Summand, AreArguments, IsArgumentOf, IsCall, IsExpression, IsTerm, pieces_of_argument, pieces_of_call};
 
@@ -57,6 +57,37 @@ pub fn terms_in(alloc: Global, pieces: &[Piece]) -> Result<Vec<Monomial>, AllocE
     }
     let list = read_terms(alloc, between(pieces, part_len(pieces)))?;
     Ok(list)
+}
+
+/// The number that an argument is; none where it is no number, or 0.
+pub fn number_in(pieces: &[Piece]) -> Option<Frac>
+    requires { AreArguments pieces.now }
+    ensures terms { IfSome result (λ number. map as_monomial (first_summands (arguments_of pieces.now))
+        ≡ record { coefficient = number; term = terms.one } ∷ []) }
+    ensures lowest { IfSome result IsLowest }
+{
+    match coefficient_in(pieces) {
+        Some(coefficient) => Some(number(coefficient)),
+        None => None,
+    }
+}
+
+/// The coefficient of an argument that is a number.
+fn coefficient_in(pieces: &[Piece]) -> Option<Coefficient>
+    ensures { result ≡ coefficient_of pieces.now }
+{
+    match pieces {
+        [Piece::Sum, Piece::EndOfTerm(coefficient), Piece::EndOfSum] => Some(*coefficient),
+        _ => None,
+    }
+}
+
+/// The fraction of a coefficient, which is in lowest terms.
+fn number(coefficient: Coefficient) -> Frac
+    requires { IsLowest (record { numerator = coefficient.numerator; denominator = coefficient.denominator }) }
+    ensures { result ≡ record { numerator = coefficient.numerator; denominator = coefficient.denominator } }
+{
+    fraction(coefficient.numerator, coefficient.denominator)
 }
 
 /// Whether a sum begins here.

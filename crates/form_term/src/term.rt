@@ -1,7 +1,7 @@
-ghost use Rattle.std.specs.Prelude.{◌≡◌, ◌≤◌, ◌++◌, [], ◌∷◌, nat_abs, fold, IfOk, OnOk, OnErr};
+ghost use Rattle.std.specs.Prelude.{◌≡◌, ◌≤◌, ◌++◌, [], ◌∷◌, nat_abs, length, fold, IfOk, OnOk, OnErr};
 ghost use Rattle.form_term.specs.Feeding.{fed_others};
 ghost use Rattle.form_term.specs.Term.{IsTerm, nothing, is_nothing, one, of_symbols, of_others, symbol_power, largest_exponent, size, depth};
-ghost use Rattle.form_term.specs.Terms.{term};
+ghost use Rattle.form_term.specs.Terms.{term, function_put, word_put};
 
 use crate::{Call, Component, Delta, DotPower, Others, Power, compare};
 use form_base::Id;
@@ -111,6 +111,49 @@ impl Term {
             Factors::Mixed(mixed) => mixed.symbols.push(power)?,
         }
         Ok(())
+    }
+
+    /// It times a commuting function, which is put at this place among its own.
+    pub fn with_function(self, alloc: Global, place: usize, call: Call) -> Result<Term, AllocError>
+        requires within { place ≤ length self.others.functions }
+        requires lawful { IsTerm (function_put place call self) }
+        ensures { IfOk result (λ t. t ≡ function_put place call self) }
+    {
+        let Term { factors } = self;
+        match factors {
+            Factors::Symbols(symbols) => {
+                let mut others = Others::none(alloc);
+                others.functions.push(call)?;
+                Term::from_factors(alloc, symbols, others)
+            }
+            Factors::Mixed(mut mixed) => {
+                mixed.others.functions.insert(place, call)?;
+                Ok(Term {
+                    factors: Factors::Mixed(mixed),
+                })
+            }
+        }
+    }
+
+    /// It times a non-commuting function.
+    pub fn with_word(self, alloc: Global, call: Call) -> Result<Term, AllocError>
+        requires { IsTerm (word_put call self) }
+        ensures { IfOk result (λ t. t ≡ word_put call self) }
+    {
+        let Term { factors } = self;
+        match factors {
+            Factors::Symbols(symbols) => {
+                let mut others = Others::none(alloc);
+                others.word.push(call)?;
+                Term::from_factors(alloc, symbols, others)
+            }
+            Factors::Mixed(mut mixed) => {
+                mixed.others.word.push(call)?;
+                Ok(Term {
+                    factors: Factors::Mixed(mixed),
+                })
+            }
+        }
     }
 
     /// The symbols whose exponent isn't 0, in order of declaration.
@@ -285,11 +328,10 @@ impl Hash for Term {
     }
 }
 
-/// Feeds the factors besides powers of symbols to a hasher.
+/// Feeds the factors besides powers of symbols to a hasher, `i_` apart.
 fn feed<H: Hasher>(others: &Others, state: &mut H)
     ensures { state.new ≡ fold H.write state.old (fed_others others.now) }
 {
-    others.is_imaginary.hash(state);
     others.dots.as_slice().hash(state);
     others.components.as_slice().hash(state);
     others.deltas.as_slice().hash(state);

@@ -3,8 +3,10 @@
 #![tactic(auto)]
 
 pub mod laws;
+mod natural;
 mod pattern;
 mod tree;
 
+pub use natural::Natural;
 pub use pattern::{IndexName, Name, Pattern, PatternPiece, Sets, Sort};
 pub use tree::{Base, Exponent, Link, Piece, Tree};

@@ -1,5 +1,6 @@
 ghost use Rattle.std.specs.Prelude.{◌≡◌};
 
+use crate::Natural;
 use form_base::Id;
 use form_term::{Component, Index};
 use std::marker::Model;
@@ -18,7 +19,7 @@ pub enum Link {
 /// What stands below a power that a wildcard stands for, where it is one piece.
 #[derive(Clone, Copy, Debug, PartialEq, Eq)]
 pub enum Base {
-    Number(u128),
+    Number(Natural),
     Symbol(Id),
     /// A symbol that is a wildcard.
     Wild(Id),
@@ -42,7 +43,7 @@ pub enum Piece {
     /// A whole number to a power.
     Number {
         link: Link,
-        value: u128,
+        value: Natural,
         power: i32,
     },
     /// A symbol to a power.

@@ -9,6 +9,3 @@ mod words;
 
 pub use job::{Job, WordsError};
 pub use words::read_words;
-
-#[cfg(test)]
-mod tests;

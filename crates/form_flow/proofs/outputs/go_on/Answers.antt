@@ -42,10 +42,6 @@ overflow_add-behind c = search (rules, c.in-Some.ensures.room)
 pub overflow_add-after : goal.overflow_add-after
 overflow_add-after c = search (rules, c.in-Some.ensures.room)
 
-pub returns-in_err-push-in-Put : goal.returns-in_err-push-in-Put
-returns-in_err-push-in-Put c = λ pss are.
-    let p = err_from_is_err_and c.from_residual-in_err-push-in-Put.result c.from_residual-in_err-push-in-Put.ensures.1 in rw (p.1, p.2) tt
-
 pub returns-in-Unchanged : goal.returns-in-Unchanged
 returns-in-Unchanged c = λ pss are.
     let z = zip_next ArePartsOf c.args.compiled.now.groups pss c.args.waiting.behind (rewritings_of c.in-Some.group.now) are (sym c.in-Some.ensures.rewritings) in
@@ -54,9 +50,14 @@ returns-in-Unchanged c = λ pss are.
     ap (λ (m : Monomial). left_in c.args.compiled.now.limit (record { given = c.args.state.now.given; waiting = Some (record { item = m; behind = c.args.waiting.behind + 1 }); frames = c.args.state.now.frames }) pss) a.1
     ∙ goes_past c.args.compiled.now.limit c.args.state.now c.args.waiting pss z.0 z.1 a.0
 
-pub returns-in_ok-push-in-Put : goal.returns-in_ok-push-in-Put
-returns-in_ok-push-in-Put c = λ pss are.
+pub next_of_row-requires : goal.next_of_row-requires
+next_of_row-requires c = c.requires
+
+pub returns-in-Put : goal.returns-in-Put
+returns-in-Put c = λ pss are.
     let z = zip_next ArePartsOf c.args.compiled.now.groups pss c.args.waiting.behind (rewritings_of c.in-Some.group.now) are (sym c.in-Some.ensures.rewritings) in
     let h = subst (λ (n : ℕ). IsApplied c.args.waiting.item (rewritten n z.0 c.args.waiting.item) c.in_ok-item.field-0) c.limit-max.ensures (c.in_ok-item.ensures z.0 z.2) in
     let a = put_some c.args.waiting.item c.in-Put.row (rewritten c.args.compiled.now.limit z.0 c.args.waiting.item) (rw c.in-Put.is at h) in
-    goes_into c.args.compiled.now.limit c.args.state.now c.args.waiting pss z.0 c.in-Put.row c.push.new.self c.requires z.1 a c.in_ok-push-in-Put.ensures.items
+    subst (λ (l : Listing). Steps c.next_of_row.result l (left_in c.args.compiled.now.limit c.next_of_row.new.state pss))
+    (goes_into c.args.compiled.now.limit c.args.state.now c.args.waiting pss z.0 c.in-Put.row z.1 a)
+    (c.next_of_row.ensures c.args.compiled.now.limit pss)

@@ -1,7 +1,11 @@
-use Rattle.std.proofs.Common.{◌≡◌, ◌++◌, ◌∷◌, [], refl, rules}
-use Rattle.std.proofs.lemmas.Result.{err_from_is_err_and}
-use Rattle.form_flow.proofs.Stepping.{no_more, row_err, row_off, row_on}
+use Rattle.std.proofs.Common.{◌≡◌, ◌++◌, ◌∷◌, [], rules, subst, sym}
+use Rattle.form_expand.specs.Listing.{Listing}
+use Rattle.form_flow.specs.Left.{Steps, left_in}
+use Rattle.form_flow.proofs.Stepping.{no_more, open_frame}
 use Rattle.form_flow.proofs.outputs.next_of_frame.Goals as goal
+
+pub next_of_row-requires : goal.next_of_row-requires
+next_of_row-requires c = c.requires
 
 pub returns-in_default : goal.returns-in_default
 returns-in_default c = λ pss.
@@ -10,35 +14,9 @@ returns-in_default c = λ pss.
     let still : c.pop.new.self.items ≡ [] = search rules in
     no_more (record { begun = l.begun; beyond = l.beyond; none = l.none; refused = l.refused }) c.args.limit c.args.state.now c.pop.new.self pss c.requires empty still
 
-pub returns-in_err-push-in-Ok-Some : goal.returns-in_err-push-in-Ok-Some
-returns-in_err-push-in-Ok-Some c = λ pss.
-    let p = err_from_is_err_and c.from_residual.result c.from_residual.ensures.1 in rw (p.1, p.2) tt
-
-pub returns-in_ok-push-in-Ok-Some : goal.returns-in_ok-push-in-Ok-Some
-returns-in_ok-push-in-Ok-Some c = λ pss.
-    let f = c.following_lists.ensures in
-    let l = c.limited_lists.ensures in
+pub returns : goal.returns
+returns c = λ pss.
     let last : c.args.state.now.frames.items ≡ c.pop.new.self.items ++ c.in-Some.frame ∷ [] = search rules in
-    row_on (record { associative = f.associative; first = f.first; begun = f.begun; refused = f.refused })
-    (record { begun = l.begun; beyond = l.beyond; none = l.none; refused = l.refused })
-    c.args.limit c.args.state.now pss c.requires c.pop.new.self.items c.in-Some.frame last c.in-Ok-Some.item c.next.new.self c.push.new.self
-    (rw c.in-Ok-Some.field-0-is at c.in-Ok-Some.ensures) c.in_ok-push-in-Ok-Some.ensures.items
-
-pub returns-in-Ok-None : goal.returns-in-Ok-None
-returns-in-Ok-None c = λ pss.
-    let f = c.following_lists.ensures in
-    let l = c.limited_lists.ensures in
-    let last : c.args.state.now.frames.items ≡ c.pop.new.self.items ++ c.in-Some.frame ∷ [] = search rules in
-    let e = (rw c.in-Ok-None.field-0-is at c.in-Ok-None.ensures) in
-    row_off (record { associative = f.associative; first = f.first; begun = f.begun; refused = f.refused })
-    (record { begun = l.begun; beyond = l.beyond; none = l.none; refused = l.refused })
-    c.args.limit c.args.state.now pss c.requires c.pop.new.self.items c.in-Some.frame last c.pop.new.self e.0 refl
-
-pub returns-in-Err : goal.returns-in-Err
-returns-in-Err c = λ pss.
-    let f = c.following_lists.ensures in
-    let l = c.limited_lists.ensures in
-    let last : c.args.state.now.frames.items ≡ c.pop.new.self.items ++ c.in-Some.frame ∷ [] = search rules in
-    row_err (record { associative = f.associative; first = f.first; begun = f.begun; refused = f.refused })
-    (record { begun = l.begun; beyond = l.beyond; none = l.none; refused = l.refused })
-    c.args.limit c.args.state.now pss c.requires c.pop.new.self.items c.in-Some.frame last c.next.new.self _ c.in-Err.error c.in-Err.ensures
+    subst (λ (l : Listing). Steps c.next_of_row.result l (left_in c.args.limit c.next_of_row.new.state pss))
+    (sym (open_frame c.args.limit c.args.state.now pss c.pop.new.self c.in-Some.frame c.requires last))
+    (c.next_of_row.ensures c.args.limit pss)

@@ -1,8 +1,11 @@
-use Rattle.std.proofs.Common.{◌≡◌, ℕ, subst, ◌∙◌}
+use Rattle.std.proofs.Common.{◌≡◌, ℕ, ap, fold, subst, ◌∙◌}
 use Rattle.form_flow.specs.Rests.{rest_in}
 use Rattle.form_flow.specs.Rewriting.{and_part, rest_of}
 use Rattle.form_flow.proofs.Resting.{last_part, next_part}
 use Rattle.form_flow.proofs.rest.rest.Goals as goal
+
+pub loop-part-init : goal.loop-part-init
+loop-part-init c = (c.untaken-rest.ensures.limit, λ ps are. ap (λ r. fold (and_part c.args.limit) r ps) c.untaken-rest.ensures.rest)
 
 pub loop-part-preserved : goal.loop-part-preserved
 loop-part-preserved c = (

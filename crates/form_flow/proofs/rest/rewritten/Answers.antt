@@ -1,5 +1,10 @@
-use Rattle.form_flow.proofs.Resting.{stays_same}
+use Rattle.std.proofs.Common.{IfOk, ap, refl, subst, sym, ◌∙◌}
+use Rattle.form_flow.specs.Applied.{IsApplied}
+use Rattle.form_flow.specs.Rewriting.{rest_of, rewritten}
 use Rattle.form_flow.proofs.rest.rewritten.Goals as goal
 
-pub returns-then-not-has_matched : goal.returns-then-not-has_matched
-returns-then-not-has_matched c = λ ps are. stays_same c.args.limit ps c.args.item c.in_ok-rest.rest (c.in_ok-rest.ensures.rest ps are) c.if-not-has_matched.true
+pub returns : goal.returns
+returns c = λ ps are.
+    let m = c.args.item in
+    subst (λ n. IfOk c.put_together.result (λ applied. IsApplied m (rewritten n ps m) applied)) c.in_ok-rest.ensures.limit
+    (c.put_together.ensures ps m refl (c.in_ok-rest.ensures.rest ps are ∙ ap (λ n. rest_of n ps m.term) (sym c.in_ok-rest.ensures.limit)))

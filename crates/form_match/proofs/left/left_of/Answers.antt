@@ -1,5 +1,7 @@
-use Rattle.std.proofs.Common.{◌≡◌, ℕ, List, sym, ap, subst, ◌∙◌}
+use Rattle.std.proofs.Common.{◌≡◌, ℕ, ◌<◌, List, sym, ap, subst, ◌∙◌}
+use Rattle.std.specs.Prelude.{All, nat_abs}
 use Rattle.std.proofs.lemmas.Result.{IfOk-weaker}
+use Rattle.form_term.specs.declared.power.Power.{Power}
 use Rattle.form_term.specs.Term.{Term, IsTerm}
 use Rattle.form_match.specs.Left.{left_of, powers_left, dots_left, untaken, takes_component, takes_delta, takes_function, word_left}
 use Rattle.form_match.specs.Taken.{FitsSymbols, FitsDots}
@@ -9,6 +11,9 @@ use Rattle.form_match.proofs.left.left_of.Goals as goal
 pub powers_left-requires-clause-fits : goal.powers_left-requires-clause-fits
 powers_left-requires-clause-fits c =
     subst (FitsSymbols c.args.takes.now) (sym c.powers.ensures.powers) (symbols_fit c.args.term.now c.args.takes.now c.powers.ensures.lawful c.requires)
+
+pub powers_left-requires-clause-present : goal.powers_left-requires-clause-present
+powers_left-requires-clause-present c = subst (λ (ps : List Power). All (λ p. 0 < nat_abs p.exponent) ps) (sym c.powers.ensures.powers) c.powers.ensures.lawful.present
 
 pub dots_left-requires-clause-fits : goal.dots_left-requires-clause-fits
 dots_left-requires-clause-fits c =

@@ -1,4 +1,5 @@
-use Rattle.std.proofs.Common.{List, Some, None, refl, sym, ap, ◌∙◌}
+use Rattle.std.proofs.Common.{List, Some, None, refl, sym, ap, subst, ◌∙◌}
+use Rattle.form_term.specs.Term.{RiseFrom}
 use Rattle.form_match.specs.Values.{Binding}
 use Rattle.form_match.proofs.Found.{powers_first, powers_fitting}
 use Rattle.form_match.proofs.matching.first_of_symbols.Goals as goal
@@ -19,3 +20,6 @@ returns-clause-first c =
 pub returns-clause-fits : goal.returns-clause-fits
 returns-clause-fits c =
     powers_fitting c.args.term.now c.args.is_exact c.powers.result.now c.args.pieces.now c.in-Some.takes c.powers.ensures.powers (sym c.in-Some.is ∙ c.in_ok-takes.ensures)
+
+pub find_powers-requires : goal.find_powers-requires
+find_powers-requires c = subst (RiseFrom 0) (sym c.powers.ensures.powers) c.powers.ensures.lawful.rising

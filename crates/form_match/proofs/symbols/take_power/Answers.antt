@@ -1,15 +1,12 @@
-use Rattle.std.proofs.Common.{◌≡◌, true, false, sym, ◌∙◌}
-use Rattle.form_match.proofs.Plainly.{power_here, power_end}
+use Rattle.std.proofs.Common.{sym, ap, ◌∙◌}
+use Rattle.form_match.proofs.Plainly.{power_of_at, use_of_power}
 use Rattle.form_match.proofs.symbols.take_power.Goals as goal
 
-pub returns-then-is_of : goal.returns-then-is_of
-returns-then-is_of c =
+pub returns-in-Some : goal.returns-in-Some
+returns-in-Some c =
     c.take_of.ensures
-    ∙ sym (c.loop-of.invariant ∙ power_here c.args.is_exact c.args.symbol c.args.power.now c.args.powers.now c.loop-of.of-index c.of-item.result true c.loop-of-test.true c.of-item.is c.if-is_of.ensures)
+    ∙ sym (power_of_at c.args.is_exact c.args.symbol c.args.power.now c.args.powers.now ∙ ap (use_of_power c.args.is_exact c.args.symbol c.args.power.now) (sym c.in-Some.ensures))
 
-pub loop-of-preserved : goal.loop-of-preserved
-loop-of-preserved c =
-    c.loop-of.invariant ∙ power_here c.args.is_exact c.args.symbol c.args.power.now c.args.powers.now c.loop-of.of-index c.of-item.result false c.loop-of-test.true c.of-item.is c.if-is_of.ensures
-
-pub returns : goal.returns
-returns c = sym (c.loop-of.invariant ∙ power_end c.args.is_exact c.args.symbol c.args.power.now c.args.powers.now c.loop-of.of-index c.loop-of-test.false)
+pub returns-in-None : goal.returns-in-None
+returns-in-None c =
+    sym (power_of_at c.args.is_exact c.args.symbol c.args.power.now c.args.powers.now ∙ ap (use_of_power c.args.is_exact c.args.symbol c.args.power.now) (sym c.in-None.ensures))

@@ -28,9 +28,9 @@ returns-clause-order c =
     c.cmp-imaginary.ensures ∙ ap (λ (b : Bool). bool_cmp b c.is_imaginary-2.result) c.is_imaginary.ensures ∙ ap (bool_cmp c.args.left.now.others.is_imaginary) c.is_imaginary-2.ensures ∙ as_exponents c.args.left.now.others.is_imaginary c.args.right.now.others.is_imaginary in
     let symbols : c.compare_symbols-symbols.result ≡ symbols_order c.args.left.now.symbols c.args.right.now.symbols =
     c.compare_symbols-symbols.ensures ∙ ap (λ (ps : List Power). symbols_order ps c.powers-2.result.now) c.powers.ensures.powers ∙ ap (symbols_order c.args.left.now.symbols) c.powers-2.ensures.powers in
-    together c.then-2.result c.cmp-imaginary.result c.then.result c.compare_symbols-symbols.result c.compare_others.result
+    together c.then.result c.cmp-imaginary.result c.or_by_others.result c.compare_symbols-symbols.result (others_order c.args.left.now.others c.args.right.now.others)
     (nat_cmp (imaginary_exponent c.args.left.now) (imaginary_exponent c.args.right.now)) (symbols_order c.args.left.now.symbols c.args.right.now.symbols) (others_order c.args.left.now.others c.args.right.now.others)
-    c.then-2.ensures c.then.ensures imaginary symbols c.compare_others.ensures
+    c.then.ensures c.or_by_others.ensures imaginary symbols refl
     ∙ sym (order_by_parts c.args.left.now c.args.right.now)
 
 pub returns-clause-equal : goal.returns-clause-equal

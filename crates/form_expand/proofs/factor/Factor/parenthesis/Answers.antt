@@ -10,4 +10,4 @@ pub returns-in-Some : goal.returns-in-Some
 returns-in-Some c =
     let list = rw c.in-Some.is at c.in_ok-terms.ensures in
     c.in_ok-new.ensures c.args.limit
-    ∙ ap (λ l. powers c.args.limit l c.args.power) (c.made.ensures ∙ sym (list c.args.stored.now))
+    ∙ ap (λ l. powers c.args.limit l c.args.power) (c.made.ensures ∙ sym list)

@@ -1,11 +1,8 @@
-use Rattle.std.proofs.Common.{◌∙◌}
-use Rattle.form_names.proofs.Entries.{position-keys}
+use Rattle.std.proofs.Common.{◌∙◌, ap, arith}
+use Rattle.form_names.specs.Names.{lookup}
+use Rattle.form_names.proofs.Letters.{one_letter}
 use Rattle.form_names.proofs.names.Names.lookup.Goals as goal
 
-pub returns-in_err-position-clause-found : goal.returns-in_err-position-clause-found
-returns-in_err-position-clause-found c =
-    rw (← c.self.view_is, c.from_residual.ensures) (c.in_err-position.ensures.index ∙ position-keys c.args.name.now c.self.inside.facts.entries)
-
-pub returns-clause-found : goal.returns-clause-found
-returns-clause-found c =
-    rw (← c.self.view_is, c.new.ensures) (c.in_ok-position.ensures.index ∙ position-keys c.args.name.now c.self.inside.facts.entries)
+pub returns-in-len1-clause-found : goal.returns-in-len1-clause-found
+returns-in-len1-clause-found c =
+    c.letter.ensures.found ∙ ap (lookup c.args.self.now) (one_letter c.as_bytes.result.now (omega (arith, c.in-len1.len_at_least, c.in-len1.len_below)) ∙ c.as_bytes.ensures.value)

@@ -1,0 +1,56 @@
+-- What is found straight on, where each piece has one candidate at most.
+use Rattle.std.specs.Prelude.{◌≡◌, Bool, true, false, List, [], ◌∷◌, ◌++◌, Option, Some, None, option_and_then}
+use Rattle.form_term.specs.declared.piece.Piece.{Piece}
+use Rattle.form_term.specs.declared.power.Power.{Power}
+use Rattle.form_tree.specs.declared.pattern.Name.{Name}
+use Rattle.form_tree.specs.declared.pattern.Name.TheVariants.{Itself, Wild}
+use Rattle.form_tree.specs.declared.pattern.PatternPiece.{PatternPiece}
+use Rattle.form_tree.specs.declared.pattern.PatternPiece.TheVariants as pieces
+use Rattle.form_match.specs.declared.matching.Match.{Match}
+use Rattle.form_match.specs.declared.uses.Use.{Use}
+use Rattle.form_match.specs.Matching.{Host, Choice, symbol_choice, whole_choice, absent_choice}
+use Rattle.form_match.specs.States.{Open, State, state, factors, first_found, reach}
+use Rattle.form_match.specs.Symbols.{power_at}
+use Rattle.form_match.specs.Values.{Binding}
+
+-- a piece that takes one argument, in one way at most
+abbrev pub is_single : PatternPiece → Bool
+is_single (pieces.Fixed k) = true
+is_single (pieces.Any sort n) = true
+is_single p = false
+
+-- a power of a symbol that is no wildcard
+abbrev pub is_power : PatternPiece → Bool
+is_power (pieces.Symbol (Itself s) k) = true
+is_power (pieces.Whole (Itself s) m) = true
+is_power p = false
+
+-- the power of such a symbol
+abbrev pub named_power : Name → List Power → Option Power
+named_power (Itself s) ps = power_at s ps
+named_power (Wild w sets) ps = None
+
+-- the choice of such a piece
+abbrev pub whole_or_absent : Host → Name → Name → Option Power → Option Choice
+whole_or_absent h n m (Some p) = whole_choice n m p
+whole_or_absent h n m None = absent_choice h n m
+
+abbrev pub only_choice : Host → PatternPiece → Option Choice
+only_choice h (pieces.Symbol n k) = option_and_then (symbol_choice h.is_exact n k) (named_power n h.term.symbols)
+only_choice h (pieces.Whole n m) = whole_or_absent h n m (named_power n h.term.symbols)
+only_choice h p = None
+
+-- whether there is a way on, which is then the only one
+abbrev pub LeadsTo : Bool → List State → List Open → List Binding → Type 0
+LeadsTo true states os bs = states ≡ state os bs ∷ []
+LeadsTo false states os bs = states ≡ []
+
+-- the match that takes one thing more, where there is one
+abbrev pub FindsOne : Option Use → Option Match → List Use → List Binding → Type 0
+FindsOne (Some u) found us bs = found ≡ Some (record { takes = us ++ u ∷ []; bindings = bs })
+FindsOne None found us bs = found ≡ None
+
+-- what is found is what these pieces find behind what is taken and bound, or nothing
+abbrev pub IsBehind : Option (List PatternPiece) → Option Match → List (Option (List Piece)) → Host → List Use → List Binding → Type 0
+IsBehind (Some ps) found table h us bs = found ≡ first_found (reach table ps (state (factors h us ∷ []) bs))
+IsBehind None found table h us bs = found ≡ None

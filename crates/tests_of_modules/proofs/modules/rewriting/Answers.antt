@@ -1,0 +1,16 @@
+use Rattle.std.proofs.Common.{List, false, pos, ap, sym, subst, All, ◌∙◌, rules}
+use Rattle.std.proofs.lemmas.List.Elements.{All-nil}
+use Rattle.form_tree.specs.declared.pattern.Name.TheVariants.{Itself}
+use Rattle.form_tree.specs.declared.tree.Piece.{Piece}
+use Rattle.form_tree.specs.Pattern as patterns
+use Rattle.form_tree.specs.Patterns.{Pieces}
+use Rattle.form_tree.specs.Tree.{first, one, number}
+use Rattle.form_module.specs.Module.{HasArgument}
+use Rattle.tests_of_modules.proofs.modules.rewriting.Goals as goal
+
+pub returns : goal.returns
+returns c = (
+  (patterns.more (patterns.symbol (Itself 0) (pos 1)) patterns.none, search rules),
+  subst (λ (lists : List (List Piece)). All HasArgument lists) (sym (ap (λ (p : Pieces). p.fixed) c.from_parts.ensures ∙ c.new-3.ensures.items)) (All-nil HasArgument),
+  (first false (one (number 1 (pos 1))), search rules),
+)

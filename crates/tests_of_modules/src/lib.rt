@@ -1,0 +1,7 @@
+//! Tests of the calls on modules: statements on a term, and modules over expressions.
+#![tactic(auto)]
+
+#[cfg(test)]
+mod modules;
+#[cfg(test)]
+mod outputs;

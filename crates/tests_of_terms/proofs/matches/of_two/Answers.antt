@@ -1,0 +1,10 @@
+use Rattle.std.specs.List.Sorted.{IsStrictlySortedBy}
+use Rattle.tests_of_terms.proofs.matches.of_two.Goals as goal
+
+pub with_expression-requires-clause-rising : goal.with_expression-requires-clause-rising
+unfolding IsStrictlySortedBy
+with_expression-requires-clause-rising c = (tt, tt)
+
+pub with_expression-requires-2-clause-rising : goal.with_expression-requires-2-clause-rising
+unfolding IsStrictlySortedBy
+with_expression-requires-2-clause-rising c = (tt, tt)

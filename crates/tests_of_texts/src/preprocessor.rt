@@ -1,0 +1,65 @@
+//! Small libraries against the lines that their files come to.
+
+use form_base::Name;
+use form_mem::SureLibrary;
+use form_preproc::{Expanded, FileError, Handed, expand};
+use std::alloc::{AllocError, Global};
+use std::test::Fail;
+
+/// A line behind the number of its text and of the line there.
+fn shown_line(alloc: Global, line: &Handed) -> Result<String, Fail> {
+    let text = str::from_utf8(line.text.as_slice()).unwrap_or("?");
+    let number = line.spot.text;
+    let place = line.spot.line;
+    Ok(format!(in alloc; "{number}:{place} {text}\n")?)
+}
+
+/// What is handed on, line by line.
+fn shown_lines(alloc: Global, lines: &[Handed]) -> Result<String, Fail> {
+    let mut shown = String::new(alloc);
+    for line in lines {
+        let line = shown_line(alloc, line)?;
+        shown.push_str(line.as_str())?;
+    }
+    Ok(shown)
+}
+
+/// The lines of a file, or the text and the line at which it is refused.
+fn shown(alloc: Global, answer: Result<Expanded, FileError>) -> Result<String, Fail> {
+    match answer {
+        Ok(expanded) => shown_lines(alloc, expanded.lines.as_slice()),
+        Err(FileError::Refused(_, name, line)) => {
+            let name = name.as_str();
+            Ok(format!(in alloc; "{name} {line}")?)
+        }
+        Err(_) => Err(Fail::from("no answer")),
+    }
+}
+
+/// What a file of these bytes comes to beside a text of another name.
+fn expanded(alloc: Global, file: &str, name: &str, text: &str) -> Result<String, Fail> {
+    let mut library = SureLibrary::new(alloc);
+    library.insert("main.frm", file.as_bytes())?;
+    library.insert(name, text.as_bytes())?;
+    let main = Name::new(alloc, "main.frm")?;
+    shown(alloc, expand(alloc, &mut library, &main))
+}
+
+#[test]
+fn texts_are_included_and_procedures_called(rt: HostRuntime) -> Result<(), Fail> {
+    let file =
+        "#include last.h\n#define N \"2\"\n#do i=1,`N'\nLocal F`i' = {`i'+1};\n#enddo\n#call last(7)\n";
+    let text =
+        "#procedure last(x)\n* commentary\n#if `x' > 6\nPrint `x';\n#endif\n.end\n#endprocedure\n";
+    let found = expanded(rt.alloc(), file, "last.h", text)?;
+    assert!(rt; found.as_str() == "0:4 Local F1 = 2;\n0:4 Local F2 = 3;\n1:4 Print 7;\n1:6 .end\n");
+    Ok(())
+}
+
+#[test]
+fn a_refusal_names_its_text(rt: HostRuntime) -> Result<(), Fail> {
+    let text = "#procedure p\nPrint `u';\n#endprocedure\n";
+    let found = expanded(rt.alloc(), "\n#call p\n.end\n", "p.prc", text)?;
+    assert!(rt; found.as_str() == "p.prc 2");
+    Ok(())
+}
