@@ -2,6 +2,8 @@
 //! is refused where it first breaks one.
 #![tactic(auto)]
 
+mod ahead;
+mod alone;
 mod checked;
 mod checker;
 mod error;
@@ -10,6 +12,7 @@ mod kinds;
 mod knowing;
 mod known;
 pub mod laws;
+mod linking;
 mod naming;
 mod pattern;
 mod powers;

@@ -8,6 +8,7 @@ ghost use Rattle.form_check.specs.PatternWalking as walking;
 ghost use Rattle.form_check.specs.Refusal.{Gives};
 
 use crate::CheckError;
+use crate::ahead::{ends_argument, power_at};
 use crate::joining::{Level, Pieces, Raw, begun};
 use crate::kinds::{found, head};
 use crate::known::Known;
@@ -18,7 +19,6 @@ use crate::putting::{
 use crate::resolved::Head;
 use crate::right_side::argument;
 use crate::standing::Standing;
-use crate::walk::{ends_argument, power_at};
 use form_ast::{Link, Named, Piece, Power, Spelled};
 use form_base::Id;
 use form_names::{Kind, Names};

@@ -7,6 +7,7 @@ ghost use Rattle.form_check.specs.Refusal.{Gives, error_of};
 ghost use Rattle.form_check.specs.RightSide.{first_misplaced, wrong, spelled_of};
 
 use crate::CheckError;
+use crate::ahead::power_at;
 use crate::joining::{Pieces, Raw, begun, ended};
 use crate::kinds::{
     alone_end, entry_end, found, misplaced, vector, wrong_delta, wrong_kind, wrong_name,
@@ -15,7 +16,6 @@ use crate::powers::{LARGEST_EXPONENT, LARGEST_POWER, exponent, is_inverted, size
 use crate::raised::symbol_named;
 use crate::resolved::End;
 use crate::sets::sets;
-use crate::walk::power_at;
 use form_ast::{Named, Piece, Power, Spelled};
 use form_base::Id;
 use form_names::{Kind, Names};

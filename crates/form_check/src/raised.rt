@@ -6,11 +6,11 @@ ghost use Rattle.form_check.specs.Walking as walking;
 ghost use Rattle.form_tree.specs.Tree as tree;
 
 use crate::CheckError;
+use crate::ahead::power_at;
 use crate::kinds::{found, wrong_kind, wrong_name};
 use crate::known::Known;
 use crate::powers::{LARGEST_NUMBER, LARGEST_POWER, size_of};
 use crate::resolved::End;
-use crate::walk::power_at;
 use form_ast::{Named, Number, Piece, Sign};
 use form_base::{Cause, Id};
 use form_names::{Kind, Names};

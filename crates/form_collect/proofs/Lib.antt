@@ -5,3 +5,4 @@ pub mod ShortLists
 pub mod Sorted
 pub mod Stands
 pub mod Sums
+pub mod Zero

@@ -1,6 +1,7 @@
 -- What a map's entries stand for, as the list goes on.
-use Rattle.std.proofs.Common.{◌≡◌, Bool, true, false, cond, List, [], ◌∷◌, ◌++◌, Option, Some, None, refl, ap, sym, ◌∙◌}
-use Rattle.std.specs.Prelude.{is_some}
+use Rattle.std.proofs.Common.{◌≡◌, Bool, true, false, cond, List, [], ◌∷◌, ◌++◌, Option, Some, None, refl, ap, sym, subst, ◌∙◌}
+use Rattle.std.specs.Prelude.{is_some, pos, MatchOption}
+use Rattle.std.specs.Option.{unwrap_or}
 use Rattle.std.specs.List.{AllByRecursion, IsDistinct}
 use Rattle.std.specs.List.Sorted.{IsPermutation}
 use Rattle.std.specs.Map.{keys_of, lookup, set_value}
@@ -9,15 +10,17 @@ use Rattle.std.specs.Cmp.{Equal-is}
 use Rattle.std.proofs.lemmas.Cmp.{tied_itself, eq_by_cmp_equiv}
 use Rattle.std.proofs.lemmas.List.Elements.{All-from_recursion, recursion_from_All}
 use Rattle.std.proofs.lemmas.List.Sorted.{IsPermutation-cons, IsPermutation-trans, IsPermutation-sym, IsPermutation-map, All-permutation, list_any-IsPermutation}
+use Rattle.std.proofs.lemmas.Map.{keys-set_value}
 use Rattle.std.proofs.lemmas.Map.Made.{is_some-lookup}
 use Rattle.std.proofs.lemmas.Map.Keys.{IsDistinct-head, IsDistinct-tail}
-use Rattle.form_frac.specs.Fraction.{Fraction, add}
+use Rattle.form_frac.specs.Fraction.{Fraction, IsLowest, whole, add}
 use Rattle.form_term.specs.Term.{Term, order}
 use Rattle.form_term.specs.TermLaws.{order_total}
 use Rattle.form_term.specs.declared.monomial.Monomial.{Monomial}
 use Rattle.form_collect.specs.Collecting.{with_term, terms_of, coefficients_at, total, collected}
 use Rattle.form_collect.specs.Collector.{AreTotalsOf}
 use Rattle.form_collect.proofs.Lists.{same, has, occurs, plus, has-terms_of, terms_of_more, terms_rise, with_term_present, with_term_absent, coefficients_alike, total_here, total_first, total_apart, occurs_within, occurs_alike, collected_overflows}
+use Rattle.form_collect.proofs.Zero.{zero_add}
 
 -- an entry has the total of the coefficients at its term
 abbrev pub IsTotal : List Monomial → Term × Fraction → Type 0
@@ -111,3 +114,20 @@ module _ (list : List Monomial) (m : Monomial) where
       let some : occurs m.term list ≡ true = sym (found m.term es list h) ∙ ap is_some e in
       let was = total_found es v (recursion_from_All (IsTotal list) es h.totals) e in
       collected_overflows m.term (list ++ m ∷ []) more (occurs_within m.term list (m ∷ []) some) (total_here m.term list m some (tied_itself order_total m.term) ∙ ap (λ (x : Option Fraction). plus x m.coefficient) was ∙ sum)
+
+  -- one more summand at a term, whose total is raised from 0 where it has none yet
+  pub totals_put : (es ns : List (Term × Fraction)) (old : Option Fraction) (v w : Fraction) → IsLowest m.coefficient → IsDistinct same (keys_of es) → old ≡ lookup (same m.term) es → v ≡ unwrap_or old (whole (pos 0)) → add v m.coefficient ≡ Some w
+      → MatchOption old (IsPermutation ((m.term, w) ∷ es) ns) (λ _. ns ≡ set_value (same m.term) es w) → AreTotalsOf es list → AreTotalsOf ns (list ++ m ∷ [])
+  totals_put es ns None v w lowest apart e f sum put h =
+      let both : Some w ≡ Some m.coefficient = sym sum ∙ ap (λ (x : Fraction). add x m.coefficient) f ∙ zero_add m.coefficient lowest in
+      let first : w ≡ m.coefficient = cc in
+      totals_added es ns (sym e) (subst (λ (x : Fraction). IsPermutation ((m.term, x) ∷ es) ns) first put) h
+  totals_put es ns (Some u) v w lowest apart e f sum put h =
+      totals_raised es ns v w apart (sym e ∙ ap Some (sym f)) sum put (ap keys_of put ∙ keys-set_value (same m.term) es w) h
+
+  -- only one that is there overflows
+  pub put_overflows : (es : List (Term × Fraction)) (old : Option Fraction) (v : Fraction) → IsLowest m.coefficient → old ≡ lookup (same m.term) es → v ≡ unwrap_or old (whole (pos 0)) → add v m.coefficient ≡ None → AreTotalsOf es list → (more : List Monomial) → collected ((list ++ m ∷ []) ++ more) ≡ None
+  put_overflows es None v lowest e f sum h more =
+      let both : Some m.coefficient ≡ None = sym (zero_add m.coefficient lowest) ∙ ap (λ (x : Fraction). add x m.coefficient) (sym f) ∙ sum in
+      absurd (cc)
+  put_overflows es (Some u) v lowest e f sum h more = total_overflows es v (sym e ∙ ap Some (sym f)) sum h more

@@ -1,8 +1,11 @@
 ghost use Rattle.std.specs.Prelude.{◌≡◌, List, [], ◌∷◌, ◌++◌, Some, None, Err, OnOk, OnErr, IfOk};
+ghost use Rattle.std.specs.Option.{ok_or};
+ghost use Rattle.form_frac.specs.Fraction.{IsLowest, add};
+ghost use Rattle.form_frac.specs.declared.frac_error.FracError.{FracError};
 ghost use Rattle.form_term.specs.declared.monomial.Monomial.{Monomial};
 ghost use Rattle.form_collect.specs.Collecting.{collected};
 
-use form_frac::Frac;
+use form_frac::{Frac, FracError};
 use form_term::{Monomial, Term, compare};
 use std::alloc::{AllocError, AllocFailed, Global};
 use std::collections::HashMap;
@@ -68,14 +71,12 @@ impl Collector {
         if self.has_overflowed {
             return Ok(());
         }
-        if let Some(sum) = self.sums.get_mut(&item.term) {
-            match sum.add(item.coefficient) {
-                Ok(raised) => *sum = raised,
-                Err(_) => self.has_overflowed = true,
-            }
-            return Ok(());
+        item.laws();
+        let sum = self.sums.entry(item.term)?.or_insert(Frac::zero());
+        match raised_by(*sum, item.coefficient) {
+            Ok(raised) => *sum = raised,
+            Err(_) => self.has_overflowed = true,
         }
-        self.sums.insert(item.term, item.coefficient)?;
         Ok(())
     }
 
@@ -99,4 +100,15 @@ impl Collector {
         terms.sort_unstable_by(|a, b| compare(&a.term, &b.term));
         Ok(terms)
     }
+}
+
+/// A sum of coefficients and one more, which is all of it where the sum is 0, as it is of a new term.
+fn raised_by(sum: Frac, coefficient: Frac) -> Result<Frac, FracError>
+    requires { IsLowest coefficient }
+    ensures { result ≡ ok_or (add sum coefficient) FracError.Overflow }
+{
+    if sum == Frac::zero() {
+        return Ok(coefficient);
+    }
+    sum.add(coefficient)
 }

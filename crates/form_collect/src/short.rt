@@ -10,7 +10,7 @@ use form_term::{Monomial, compare};
 use std::alloc::{AllocError, Global};
 use std::cmp::Ordering;
 
-/// The collected list of a few terms. None where a sum of coefficients is out of range.
+/// The collected list of a few terms. None where it isn't collected here, as where a sum of coefficients is out of range.
 pub fn collect_short(
     alloc: Global,
     list: Vec<Monomial>,

@@ -12,6 +12,7 @@ mod LiteralSums
 mod Lones
 pub mod Lookups
 pub mod NumberLists
+pub mod NumberSums
 pub mod Parenthesized
 pub mod Places
 pub mod Powered

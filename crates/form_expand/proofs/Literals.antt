@@ -15,7 +15,6 @@ use Rattle.form_tree.specs.declared.tree.Piece.{Piece}
 use Rattle.form_tree.specs.declared.tree.Piece.TheVariants as pieces
 use Rattle.form_expand.specs.declared.ended.Ended.{Ended}
 use Rattle.form_expand.specs.declared.ended.Ended.TheVariants.{Power}
-use Rattle.form_expand.specs.declared.literal.Literal.{Literal}
 use Rattle.form_expand.specs.Bound.{wild_list}
 use Rattle.form_expand.specs.Closings.{closing_at}
 use Rattle.form_expand.specs.Meanings.{Meanings, function_of}
@@ -59,7 +58,7 @@ abbrev pub IsOne : ℕ → List Listing → Monomial → Type 0
 IsOne max [] m = m ≡ unit
 IsOne max (l ∷ ls) m = row max (l ∷ ls) ≡ limited max (single m)
 
-one_more : (max : ℕ) (factors : List Listing) (l : Listing) (old new : Monomial) → IsOne max factors old → IsTimes l old new → IsOne max (factors ++ limited max l ∷ []) new
+pub one_more : (max : ℕ) (factors : List Listing) (l : Listing) (old new : Monomial) → IsOne max factors old → IsTimes l old new → IsOne max (factors ++ limited max l ∷ []) new
 unfolding row row_behind
 one_more max [] l old new one t =
     let same : t.factor ≡ new = same_ok t.factor new (product_of unit t.factor) t.by_one (ap (λ m. product_of m t.factor) (sym one) ∙ t.product) in
@@ -70,7 +69,7 @@ one_more max (k ∷ ks) l old new one t =
     ∙ ap (λ last. limited max (pairs (limited max (single old)) (limited max last))) t.alone
     ∙ pair_of_ones max old t.factor new t.product
 
-one_row : (max : ℕ) (factors : List Listing) (m : Monomial) → 0 < length factors → IsOne max factors m → row max factors ≡ limited max (single m)
+pub one_row : (max : ℕ) (factors : List Listing) (m : Monomial) → 0 < length factors → IsOne max factors m → row max factors ≡ limited max (single m)
 one_row max [] m some one = absurd (omega arith)
 one_row max (l ∷ ls) m some one = one
 

@@ -1,43 +1,39 @@
 -- Arguments that are one piece.
-use Rattle.std.proofs.Common.{◌≡◌, ℕ, zero, suc, ◌+◌, ◌<◌, ◌≤◌, Bool, true, false, List, [], ◌∷◌, ◌++◌, length, take, drop, refl, sym, ap, subst, ◌∙◌, arith}
-use Rattle.std.specs.Prelude.{ℤ, pos, nat_abs, nat_le, nat_lt, Option, Some, None, Ok, IfSome, if◌then◌else◌}
-use Rattle.std.specs.Borrow.{Bor}
+use Rattle.std.proofs.Common.{◌≡◌, ℕ, ◌<◌, ◌≤◌, Bool, true, false, List, [], ◌∷◌, ◌++◌, length, take, drop, refl, sym, ap, subst, ◌∙◌, arith}
+use Rattle.std.specs.Prelude.{ℤ, nat_abs, Option, Some, None, Ok, IfSome}
 use Rattle.std.specs.Ordering.{eq_by_cmp}
 use Rattle.std.specs.Cmp.{Equal-is}
 use Rattle.std.proofs.lemmas.Cmp.{tied_itself}
 use Rattle.std.proofs.lemmas.Bool.{le-leb, lt-ltb}
-use Rattle.form_frac.specs.Fraction.{Fraction, whole, is_zero}
+use Rattle.form_frac.specs.Fraction.{Fraction, is_zero}
 use Rattle.form_term.specs.declared.arguments.Arguments.{Arguments}
 use Rattle.form_term.specs.declared.monomial.Monomial.{Monomial}
-use Rattle.form_term.specs.declared.power.Power.{Power}
 use Rattle.form_term.specs.Monomial.{summands_of}
-use Rattle.form_term.specs.Term.{Term, order, one, of_symbols, symbol_power, largest_exponent, pieces_of_argument, pieces_of_arguments, expression}
+use Rattle.form_term.specs.Term.{order, symbol_power, largest_exponent, pieces_of_argument, expression}
 use Rattle.form_term.specs.TermLaws.{order_total}
-use Rattle.form_collect.specs.Collecting.{collected, terms_of, with_totals, coefficients_at}
+use Rattle.form_collect.specs.Collecting.{collected, terms_of}
 use Rattle.form_normal.specs.Product.{number_alone}
 use Rattle.form_tree.specs.declared.tree.Link.{Link}
-use Rattle.form_tree.specs.declared.tree.Link.TheVariants as links
 use Rattle.form_tree.specs.declared.tree.Piece.{Piece}
 use Rattle.form_tree.specs.declared.tree.Piece.TheVariants as pieces
 use Rattle.form_expand.specs.declared.ended.Ended.TheVariants as ends
 use Rattle.form_expand.specs.declared.literal_arguments.Lone.{Lone}
 use Rattle.form_expand.specs.declared.literal_arguments.Lone.TheVariants as lones
 use Rattle.form_expand.specs.Bound.{wild_list}
-use Rattle.form_expand.specs.Calls.{called, IsFurther}
+use Rattle.form_expand.specs.Calls.{called}
 use Rattle.form_expand.specs.Closings.{closing_at}
 use Rattle.form_expand.specs.Left.{row, row_behind}
 use Rattle.form_expand.specs.Listing.{Listing, single, limited, powers}
 use Rattle.form_expand.specs.Literals.{IsLiteral, IsArgued, IsArguedWithin}
-use Rattle.form_expand.specs.Lones.{term_of, argument_of, IsPresent, IsLone, IsLoneArgument}
-use Rattle.form_expand.specs.Meanings.{Meanings, terms_bound}
+use Rattle.form_expand.specs.Lones.{term_of, argument_of, IsPresent, IsLone}
+use Rattle.form_expand.specs.Meanings.{Meanings}
 use Rattle.form_expand.specs.Numbers.{number_list, symbol_list}
 use Rattle.form_expand.specs.Pieces.{list_of_piece}
 use Rattle.form_expand.specs.Readers.{is_minus_piece, list_of_calling}
-use Rattle.form_expand.specs.Reading.{read_from, list_of_pieces}
+use Rattle.form_expand.specs.Reading.{list_of_pieces}
 use Rattle.form_expand.specs.Singles.{argument_of as argument_listed, of_collected}
 use Rattle.form_expand.specs.Walks.{all_of}
 use Rattle.form_expand.proofs.Called.{opens, argument_opens, piece_alone, expression_read, expression_ended}
-use Rattle.form_expand.proofs.LiteralCalls.{wild_number}
 use Rattle.form_expand.proofs.Literals.{IsReadTo, literal_read}
 use Rattle.form_expand.proofs.LiteralSums.{sum_begun, sum_more, sum_read}
 use Rattle.form_expand.proofs.Listings.{limited_again}
@@ -152,7 +148,6 @@ pub number_listed : (found : Option Lone) (number : Fraction) (list : Listing) �
 number_listed None number list e h = tt
 number_listed (Some l) number list e h = (e ∙ ap single h.0, h.1)
 
-pub wild_listed : (all : Meanings) (symbol : ℕ) (is_over : Bool) (power : ℤ) (found : Option Lone) (number : Fraction) → is_over ≡ false → power ≡ pos 1 → terms_bound all symbol ≡ Some (number_alone number ∷ [])
-    → IfSome found (λ l. (number_alone number ≡ term_of l) × IsPresent l) → IfSome found (λ l. (wild_list all symbol is_over power ≡ (single (term_of l), 1)) × IsPresent l)
-wild_listed all symbol is_over power None number here once bound h = tt
-wild_listed all symbol is_over power (Some l) number here once bound h = (wild_number all symbol is_over power number here once bound ∙ ap (λ (m : Monomial). (single m, 1)) h.0, h.1)
+pub wild_listed : (found : Option Lone) (number : Fraction) (list : Listing × ℕ) → list ≡ (single (number_alone number), 1) → IfSome found (λ l. (number_alone number ≡ term_of l) × IsPresent l) → IfSome found (λ l. (list ≡ (single (term_of l), 1)) × IsPresent l)
+wild_listed None number list e h = tt
+wild_listed (Some l) number list e h = (e ∙ ap (λ (m : Monomial). (single m, 1)) h.0, h.1)

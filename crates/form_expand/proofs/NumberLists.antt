@@ -1,12 +1,12 @@
 -- The list of a number's power, by the sign and size of the power.
-use Rattle.std.proofs.Common.{◌≡◌, ℕ, zero, suc, ◌<◌, ◌≤◌, Bool, false, cond, ℤ, pos, negsuc, nat_abs, refl, sym, ap, ◌∙◌, arith}
+use Rattle.std.proofs.Common.{◌≡◌, ℕ, zero, suc, ◌/◌, ◌<◌, ◌≤◌, Bool, false, cond, ℤ, pos, negsuc, nat_abs, refl, sym, ap, subst, ◌∙◌, arith}
 use Rattle.std.specs.Prelude.{Option, Some, None, Result, Ok, Err}
 use Rattle.std.specs.Option.{ok_or}
 use Rattle.std.specs.Result.{result_ok}
 use Rattle.std.specs.Int.Signed.{lt_z}
-use Rattle.std.proofs.lemmas.Bool.{lt-leb, le-leb, le-ltb}
+use Rattle.std.proofs.lemmas.Bool.{ne_eqb, lt-leb, le-leb, le-ltb}
 use Rattle.form_base.specs.declared.cause.Cause.TheVariants.{Overflow}
-use Rattle.form_frac.specs.Fraction.{Fraction, largest, make, is_zero}
+use Rattle.form_frac.specs.Fraction.{Fraction, whole, largest, gcd, reduced, make, is_zero, IsLowest}
 use Rattle.form_frac.specs.declared.frac_error.FracError.{FracError}
 use Rattle.form_term.specs.Monomial.{unit}
 use Rattle.form_normal.specs.Product.{number_alone}
@@ -50,3 +50,17 @@ number_is_alone value power base number some h e present made =
     sym (number_made value power (Ok base) some h e)
     ∙ ap (λ (b : Bool). cond b nothing (of_coefficient (raised base (nat_abs power)))) present
     ∙ ap of_coefficient made
+
+-- a number that is its own power
+whole_made : (n : ℕ) → n ≤ largest → gcd n 1 ≡ 1 → make (pos n) (pos 1) ≡ Ok (whole (pos n))
+unfolding make reduced
+whole_made n h one =
+    let same : n / 1 ≡ n = omega arith in
+    rw (one, same, le-leb n largest h) refl
+
+pub number_is_whole : (n : ℕ) (q : Fraction) → 0 < n → n ≤ largest → q ≡ whole (pos n) → IsLowest q → number_list n (pos 1) ≡ single (number_alone q)
+unfolding raised
+number_is_whole n q some h is lowest =
+    let one : gcd n 1 ≡ 1 = subst (λ (f : Fraction). gcd (nat_abs f.numerator) f.denominator ≡ 1) is lowest.is_coprime in
+    number_is_alone n (pos 1) (whole (pos n)) (whole (pos n)) (omega arith) h (sym (whole_made n h one)) (ne_eqb n 0 (λ e. absurd (omega (arith, some, e)))) refl
+    ∙ ap (λ f. single (number_alone f)) (sym is)

@@ -154,7 +154,7 @@ module _ (all : Meanings) (p : Frame) where
 
 -- Reading factor by factor.
 
-linked_first : (max : ℕ) (link : Link) → linked link (fresh max) ≡ product_part max (is_minus_link link) []
+pub linked_first : (max : ℕ) (link : Link) → linked link (fresh max) ≡ product_part max (is_minus_link link) []
 linked_first max links.Plus = ap (λ l. record { max = max; sum = l; is_minus = false; factors = [] }) (closed_fresh max)
 linked_first max links.Minus = ap (λ l. record { max = max; sum = l; is_minus = true; factors = [] }) (closed_fresh max)
 linked_first max links.Times = refl

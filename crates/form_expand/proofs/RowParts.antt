@@ -1,5 +1,5 @@
 -- The lists of a row, each within the limit.
-use Rattle.std.proofs.Common.{◌≡◌, ℕ, zero, suc, ◌<◌, ◌≤◌, Bool, true, false, List, [], ◌∷◌, ◌++◌, Option, Some, None, Result, Ok, Err, length, map, refl, sym, ap, ◌∙◌, arith, append_assoc, append-nil}
+use Rattle.std.proofs.Common.{◌≡◌, ℕ, zero, suc, ◌<◌, ◌≤◌, Bool, true, false, List, [], ◌∷◌, ◌++◌, Option, Some, None, Result, Ok, Err, length, map, refl, sym, ap, subst, ◌∙◌, arith, append_assoc, append-nil}
 use Rattle.std.specs.Bool.{OnTrue}
 use Rattle.std.proofs.lemmas.List.{map-append}
 use Rattle.form_base.specs.declared.cause.Cause.{Cause}
@@ -9,17 +9,21 @@ use Rattle.form_expand.specs.declared.row.Part.{Part}
 use Rattle.form_expand.specs.declared.row.Part.TheVariants as parts
 use Rattle.form_expand.specs.declared.factor.Factor.{Factor}
 use Rattle.form_expand.specs.Factors.{factor_whole}
-use Rattle.form_expand.specs.Kept.{listing}
+use Rattle.form_expand.specs.declared.error.ExpandError.{ExpandError}
+use Rattle.form_expand.specs.declared.whole.Whole.{Whole}
+use Rattle.form_expand.specs.Kept.{listing, rest_at}
+use Rattle.form_expand.specs.Next.{Gives, IsMade}
 use Rattle.form_normal.specs.Product.{product_of}
 use Rattle.form_expand.specs.Left.{row, row_behind, times_by}
-use Rattle.form_expand.specs.Listing.{Listing, nothing, single, refusal, before_by, limited, followed, times, times_each, pairs}
+use Rattle.form_expand.specs.Listing.{Listing, nothing, single, refusal, before, before_by, limited, followed, times, times_each, pairs}
 use Rattle.form_expand.specs.Parts.{part_list}
 use Rattle.form_expand.specs.Singles.{once}
-use Rattle.form_expand.specs.Walks.{walk_left}
+use Rattle.form_expand.specs.Walks.{IsAlone, walk_left}
 use Rattle.form_expand.specs.declared.walk.Walk.{Walk}
 use Rattle.form_expand.proofs.Behind.{limited_pieces}
 use Rattle.form_expand.proofs.Listings.{followed_last, limited_within, limited_again, limited_length, limited_none, limited_refusal, pairs_before, pairs_nothing, pairs_refusal}
-use Rattle.form_expand.proofs.Taking.{times_by_end}
+use Rattle.form_expand.proofs.Places.{spent}
+use Rattle.form_expand.proofs.Taking.{times_by_end, gives_last, gives_unmade}
 
 -- a list of a row as the limit cuts it
 abbrev pub bounded : ℕ → Part → Listing
@@ -129,3 +133,29 @@ row_of_part max m p f made is row_is =
 pub spent_pair : (b : Bool) (left : Option Monomial) (w : Walk) → OnTrue b ((max : ℕ) → walk_left max w ≡ nothing) → OnTrue b ((max : ℕ) → times_by left (walk_left max w) ≡ nothing)
 spent_pair true left w h = λ max. ap (times_by left) (h max) ∙ times_by_end left None
 spent_pair false left w h = tt
+
+-- A term and a list of one term.
+
+whole_here : (l : Listing) → l ≡ rest_at 0 l
+whole_here l = here l.terms l.end
+  where
+    here : (ms : List Monomial) (end : Option Cause) → record { terms = ms; end = end } ≡ rest_at 0 (record { terms = ms; end = end })
+    here [] end = refl
+    here (m ∷ ms) end = refl
+
+-- the product of the two is all of their row
+pub alone_row : (max : ℕ) (m t : Monomial) (w : Whole) (r : Result (Option Monomial) ExpandError) → IsAlone max w → rest_at 0 (listing w) ≡ before t (rest_at 1 (listing w)) → IsMade r (product_of m t)
+    → Gives r (row max (single m ∷ limited max (listing w) ∷ [])) nothing
+alone_row max m t w r h first made =
+    let l = listing w in
+    let is : l ≡ before t nothing = whole_here l ∙ first ∙ ap (before t) (spent l 1 h.done (omega (arith, h.alone))) in
+    let within : limited max l ≡ before t nothing = limited_within max l (omega (arith, h.alone, h.some)) ∙ is in
+    subst (λ (x : Listing). Gives r x nothing) (pair_row max m l (limited max l) h.some refl) (gives r (limited max l) within made)
+  where
+    gives : (r : Result (Option Monomial) ExpandError) (rest : Listing) → rest ≡ before t nothing → IsMade r (product_of m t) → Gives r (times m rest) nothing
+    gives (Ok made) rest is h = gives_last (Some m) t made rest nothing is h refl
+    gives (Err e) rest is h = gives_unmade (Some m) t rest nothing e nothing is h
+
+-- it isn't empty
+pub some_alone : (max : ℕ) (w : Whole) (end : Option Cause) → IsAlone max w → rest_at 0 (listing w) ≡ record { terms = []; end = end } → ⊥
+some_alone max w end h none = omega (arith, h.alone, ap (λ l. length l.terms) (whole_here (listing w) ∙ none))

@@ -33,6 +33,11 @@ pub times_by_end : (left : Option Monomial) (end : Option Cause) → times_by le
 times_by_end None end = refl
 times_by_end (Some m) end = times_end m end
 
+-- the product with the last term of a list
+pub gives_last : (left : Option Monomial) (t : Monomial) (made : Option Monomial) (rest new : Listing) → rest ≡ before t nothing → product_by left t ≡ Ok made → new ≡ nothing → Gives (Ok made) (times_by left rest) new
+gives_last left t None rest new first made none = (times_by_zero left t rest nothing first made ∙ times_by_end left None, none)
+gives_last left t (Some m) rest new first made none = times_by_made left t m rest nothing first made ∙ ap (before m) (times_by_end left None ∙ sym none)
+
 -- a level, by what is left of its pairing
 
 module _ (max : ℕ) (old : Level) where

@@ -16,6 +16,7 @@ pub mod Lones
 pub mod Meanings
 pub mod Modes
 pub mod Next
+pub mod NumberSums
 pub mod Numbers
 pub mod Parentheses
 pub mod Parts

@@ -1,10 +1,11 @@
 -- What is left of the lists that terms are being taken from.
-use Rattle.std.specs.Prelude.{ℕ, suc, ◌-◌, List, ◌++◌, map, drop, option_to_list, None}
+use Rattle.std.specs.Prelude.{◌≡◌, ℕ, suc, ◌+◌, ◌-◌, ◌<◌, length, List, ◌++◌, map, drop, option_to_list, None}
 use Rattle.form_term.specs.declared.monomial.Monomial.{Monomial}
 use Rattle.form_expand.specs.declared.walk.Walk.{Walk}
+use Rattle.form_expand.specs.declared.whole.Whole.{Whole}
 use Rattle.form_expand.specs.declared.power.Step.{Step}
 use Rattle.form_expand.specs.declared.power.Power.{Power}
-use Rattle.form_expand.specs.Kept.{listing, rest_at}
+use Rattle.form_expand.specs.Kept.{kept_terms, end_of, listing, rest_at}
 use Rattle.form_expand.specs.Listing.{Listing, limited, powers}
 use Rattle.form_expand.specs.Left.{Level, Waiting, row_left, times_by}
 
@@ -13,6 +14,18 @@ walk_whole max w = limited max (listing w.whole)
 
 abbrev pub walk_left : ℕ → Walk → Listing
 walk_left max w = limited (max - w.count) (rest_at w.place (listing w.whole))
+
+-- one term is left of a list, which isn't refused before or behind it
+pub record HasOne (max : ℕ) (w : Walk) : Type 0 where
+  pub done : end_of w.whole.end ≡ None
+  pub last : length (kept_terms w.whole.kept) ≡ w.place + 1
+  pub within : w.count < max
+
+-- a list has one term and isn't refused behind it, and may have one
+pub record IsAlone (max : ℕ) (w : Whole) : Type 0 where
+  pub done : end_of w.end ≡ None
+  pub alone : length (kept_terms w.kept) ≡ 1
+  pub some : 0 < max
 
 -- what is left of the pairing of a factor's terms
 abbrev pub opened_list : Listing → Step → Listing

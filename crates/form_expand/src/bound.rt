@@ -1,9 +1,11 @@
 //! Symbols that wildcards stand for, and factors to a power that a wildcard stands for.
-ghost use Rattle.std.specs.Prelude.{◌≡◌, ◌≤◌, ℕ, true, [], ◌∷◌, nat_abs, map, All, Some, IfOk};
-ghost use Rattle.form_frac.specs.Fraction.{largest};
+ghost use Rattle.std.specs.Prelude.{◌≡◌, ◌≤◌, ℕ, true, [], ◌∷◌, nat_abs, map, All, Some, IfOk, IfSome};
+ghost use Rattle.form_frac.specs.Fraction.{largest, IsLowest};
 ghost use Rattle.form_term.specs.Term.{largest_exponent};
+ghost use Rattle.form_normal.specs.Product.{number_alone};
 ghost use Rattle.form_expand.specs.Bound as definition;
 ghost use Rattle.form_expand.specs.Kept.{listing, listed};
+ghost use Rattle.form_expand.specs.Listing.{single};
 ghost use Rattle.form_expand.specs.Numbers as numbers;
 ghost use Rattle.form_expand.specs.Singles.{dot_list as dot_list_of};
 
@@ -14,7 +16,8 @@ use crate::stored::Standing;
 use crate::value::turned;
 use crate::whole::Whole;
 use form_base::{Cause, Id};
-use form_term::{DotPower, Monomial, Others, Power, Term, terms_in};
+use form_frac::Frac;
+use form_term::{DotPower, Monomial, Others, Power, Term, number_in, terms_in};
 use form_tree::{Base, Exponent};
 use std::alloc::{AllocError, Global};
 
@@ -55,6 +58,25 @@ fn expression_to<'a>(
         return Err(AllocError);
     }
     Ok((base_of(alloc, terms, is_over, power < 0)?, size as u32))
+}
+
+/// The number that a wildcard stands for as a factor; none where it isn't one, or is 0.
+pub fn bound_number(names: &Standing, symbol: Id, is_over: bool, power: i32) -> Option<Frac>
+    ensures { IfSome result (λ number. (definition.wild_list names.now symbol is_over power ≡ (single (number_alone number), 1)) × IsLowest number) }
+{
+    if is_over {
+        return None;
+    }
+    if power != 1 {
+        return None;
+    }
+    let Some(value) = names.expression(symbol) else {
+        return None;
+    };
+    let Some(number) = number_in(value) else {
+        return None;
+    };
+    Some(number)
 }
 
 /// What is to be multiplied where these terms stand after `/`, or to a negative power.

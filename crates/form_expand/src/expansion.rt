@@ -5,7 +5,7 @@ ghost use Rattle.form_expand.specs.Kept.{listing};
 ghost use Rattle.form_expand.specs.Next.{Gives};
 
 use crate::ExpandError;
-use crate::literal_arguments::short_sum;
+use crate::literal_sum::literal_list;
 use crate::stored::Standing;
 use crate::stream::Stream;
 use crate::whole::Whole;
@@ -67,8 +67,8 @@ pub fn whole_list<'a>(
 ) -> Result<Whole<'static>, AllocError>
     ensures { (s : Sum) → tree.now ≡ pieces_of_sum s → IfOk result (λ whole. listing whole ≡ list_of_sum limit names.now s) }
 {
-    if let Some(terms) = short_sum(alloc, names, tree, limit)? {
-        return Ok(Whole::made(terms));
+    if let Some(whole) = literal_list(alloc, names, tree, limit)? {
+        return Ok(whole);
     }
     drained(alloc, expand_tree(alloc, tree, limit, names))
 }

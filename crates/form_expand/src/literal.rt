@@ -10,6 +10,7 @@ ghost use Rattle.form_expand.specs.Meanings.{function_of};
 ghost use Rattle.form_expand.specs.Numbers.{number_list, symbol_list};
 ghost use Rattle.form_expand.specs.Singles.{list_of_call};
 
+use crate::bound::bound_number;
 use crate::ended::Ended;
 use crate::literal_arguments::literal_arguments;
 use crate::number::{LARGEST_EXPONENT, number_alone};
@@ -19,7 +20,7 @@ use form_base::Id;
 use form_normal::{
     ProductError, laws, multiply_by_number, multiply_by_power, times_function, times_word,
 };
-use form_term::{Call, Monomial, Power, number_in};
+use form_term::{Call, Monomial, Power};
 use form_tree::Piece;
 use std::alloc::{AllocError, Global};
 use std::mem;
@@ -180,16 +181,7 @@ fn take_wild(
     ensures times { result ≡ Ok true → IsTimes (wild_list names.now symbol is_over power).0 front.old front.new }
 {
     laws::single_factors();
-    if is_over {
-        return Ok(false);
-    }
-    if power != 1 {
-        return Ok(false);
-    }
-    let Some(value) = names.expression(symbol) else {
-        return Ok(false);
-    };
-    let Some(number) = number_in(value) else {
+    let Some(number) = bound_number(names, symbol, is_over, power) else {
         return Ok(false);
     };
     made(multiply_by_number(alloc, front, number))

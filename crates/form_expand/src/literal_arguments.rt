@@ -11,20 +11,18 @@ ghost use Rattle.form_expand.specs.Numbers.{number_list, symbol_list};
 ghost use Rattle.form_expand.specs.Reading.{list_of_pieces};
 ghost use Rattle.form_expand.specs.Walks.{all_of};
 
-use crate::literal::DEEPEST;
-use crate::literal_sum::literal_terms;
+use crate::bound::bound_number;
+use crate::literal_sum::{MOST_PIECES, literal_terms};
 use crate::number::{LARGEST_EXPONENT, number_alone};
+use crate::number_sum::number_sum;
 use crate::reader::{closing, is_subtracted};
 use crate::stored::Standing;
 use form_base::Id;
 use form_collect::{collect_short, laws};
 use form_frac::Frac;
-use form_term::{Arguments, Monomial, Power, number_in};
+use form_term::{Arguments, Monomial, Power};
 use form_tree::Piece;
 use std::alloc::{AllocError, Global};
-
-/// How many pieces a sum may have that is read at once.
-const MOST_PIECES: usize = 64;
 
 /// The arguments of a function that have these pieces; none where it gives up.
 #[cycle(literal)]
@@ -93,12 +91,25 @@ fn with_lone(arguments: Arguments, lone: Lone) -> Result<Arguments, AllocError>
     }
 }
 
-/// The argument that these pieces begin with, where it is of one piece, and the pieces behind it.
+/// The argument that these pieces begin with, where it is a number or of one piece, and the pieces behind it.
 fn lone_argument<'a>(
     names: &Standing,
     pieces: &'a [Piece],
     limit: u64,
 ) -> Option<(Lone, &'a [Piece])>
+    ensures { IfSome result (λ found. IsLoneArgument limit names.now pieces.now found.0 found.1.now) }
+{
+    if let Some(found) = one_piece(names, pieces, limit) {
+        return Some(found);
+    }
+    match number_sum(names, pieces, limit) {
+        Some(found) => Some((Lone::Number(found.0), found.1)),
+        None => None,
+    }
+}
+
+/// The argument that these pieces begin with, where it is of one piece, and the pieces behind it.
+fn one_piece<'a>(names: &Standing, pieces: &'a [Piece], limit: u64) -> Option<(Lone, &'a [Piece])>
     ensures { IfSome result (λ found. IsLoneArgument limit names.now pieces.now found.0 found.1.now) }
 {
     if limit == 0 {
@@ -171,16 +182,7 @@ fn of_symbol(symbol: Id, power: i32) -> Option<Lone>
 fn of_wild(names: &Standing, symbol: Id, is_over: bool, power: i32) -> Option<Lone>
     ensures { IfSome result (λ lone. (wild_list names.now symbol is_over power ≡ (single (term_of lone), 1)) × IsPresent lone) }
 {
-    if is_over {
-        return None;
-    }
-    if power != 1 {
-        return None;
-    }
-    let Some(value) = names.expression(symbol) else {
-        return None;
-    };
-    let Some(number) = number_in(value) else {
+    let Some(number) = bound_number(names, symbol, is_over, power) else {
         return None;
     };
     of_number(number)
@@ -255,17 +257,5 @@ fn few_terms(
     if pieces.len() > MOST_PIECES {
         return Ok(None);
     }
-    literal_terms(alloc, names, pieces, limit, 0, deeper)
-}
-
-/// The terms of the sum of these pieces, where each product is a term and there are few.
-pub fn short_sum(
-    alloc: Global,
-    names: &Standing,
-    pieces: &[Piece],
-    limit: u64,
-) -> Result<Option<Vec<Monomial>>, AllocError>
-    ensures { IfOk result (λ found. IfSome found (λ terms. list_of_pieces limit names.now pieces.now ≡ all_of terms.items)) }
-{
-    few_terms(alloc, names, pieces, limit, DEEPEST)
+    literal_terms(alloc, names, Vec::new(alloc), pieces, limit, deeper)
 }

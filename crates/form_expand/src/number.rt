@@ -38,6 +38,31 @@ pub fn number_list<'a>(alloc: Global, value: u128, power: i32) -> Whole<'a>
 pub fn number_alone(value: u128, power: i32) -> Option<Frac>
     ensures { IfSome result (λ number. (number_list_of value power ≡ single (number_alone_of number)) × IsLowest number) }
 {
+    if power == 1 {
+        number_once(value)
+    } else {
+        number_raised(value, power)
+    }
+}
+
+/// The same of the number itself, which nearly every number is.
+fn number_once(value: u128) -> Option<Frac>
+    ensures { IfSome result (λ number. (number_list_of value (pos 1) ≡ single (number_alone_of number)) × IsLowest number) }
+{
+    if value == 0 {
+        return None;
+    }
+    if value > LARGEST {
+        return None;
+    }
+    let number = Frac::whole(value as i128);
+    let _ = number.numerator();
+    Some(number)
+}
+
+fn number_raised(value: u128, power: i32) -> Option<Frac>
+    ensures { IfSome result (λ number. (number_list_of value power ≡ single (number_alone_of number)) × IsLowest number) }
+{
     let size = power.unsigned_abs();
     if size == 0 || value > LARGEST {
         return None;

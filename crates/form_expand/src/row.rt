@@ -2,17 +2,20 @@
 ghost use Rattle.std.specs.Prelude.{◌≡◌, ◌∷◌, [], ℕ, IfOk, map};
 ghost use Rattle.std.specs.Bool.{OnTrue};
 ghost use Rattle.form_expand.specs.Factors.{factor_whole};
+ghost use Rattle.form_expand.specs.Kept.{listing};
 ghost use Rattle.form_expand.specs.Left.{row};
 ghost use Rattle.form_expand.specs.Listing.{limited, nothing, single};
 ghost use Rattle.form_expand.specs.Next.{Gives};
 ghost use Rattle.form_expand.specs.Parts.{part_list};
 ghost use Rattle.form_expand.specs.Products.{product_left};
 ghost use Rattle.form_expand.specs.RowLists.{lists_left, pair_left};
+ghost use Rattle.form_expand.specs.Walks.{HasOne, IsAlone};
 
 use crate::ExpandError;
 use crate::factor::Factor;
 use crate::product::Product;
 use crate::stored::Standing;
+use crate::times::times_onto;
 use crate::walk::Walk;
 use crate::whole::Whole;
 use form_frac::Frac;
@@ -62,7 +65,21 @@ impl Pair<'_> {
     fn next(&mut self, alloc: Global, limit: u64) -> Result<Option<Monomial>, ExpandError>
         ensures { Gives result (pair_left limit self.old) (pair_left limit self.new) }
     {
+        if self.walk.has_one(limit) {
+            return self.last(alloc, limit);
+        }
         self.walk.next_times(alloc, limit, &self.left)
+    }
+
+    /// The product with the last term, which the left term is taken over for.
+    fn last(&mut self, alloc: Global, limit: u64) -> Result<Option<Monomial>, ExpandError>
+        requires { HasOne limit self.old.walk }
+        ensures { Gives result (pair_left limit self.old) (pair_left limit self.new) }
+    {
+        match self.left.take() {
+            Some(left) => self.walk.last_times(alloc, left),
+            None => self.walk.next_times(alloc, limit, &self.left),
+        }
     }
 
     /// Whether there surely is no further term.
@@ -139,6 +156,20 @@ fn product_of_two<'a>(
     factors.push(second)?;
     let product = Product::new(alloc, factors)?;
     Ok(product)
+}
+
+/// A term times the only one of a list: all of their row; none where the product is 0.
+pub fn alone_times(
+    alloc: Global,
+    left: Monomial,
+    list: &Whole,
+) -> Result<Option<Monomial>, ExpandError>
+    ensures { (max : ℕ) → IsAlone max list.now → Gives result (row max (single left ∷ limited max (listing list.now) ∷ [])) nothing }
+{
+    match list.at(0) {
+        Some(term) => times_onto(alloc, left, term),
+        None => Ok(None),
+    }
 }
 
 /// A term times several lists.

@@ -1,8 +1,9 @@
+ghost use Rattle.form_normal.specs.Product.{product_of};
 ghost use Rattle.form_expand.specs.Left.{product_by};
 ghost use Rattle.form_expand.specs.Next.{IsMade};
 
 use crate::ExpandError;
-use form_normal::product;
+use form_normal::{product, product_onto};
 use form_term::Monomial;
 use std::alloc::Global;
 
@@ -23,7 +24,18 @@ pub fn times(
     }
 }
 
-/// The same with a term of its own.
+/// The same with a front of the caller's own.
+pub fn times_onto(
+    alloc: Global,
+    left: Monomial,
+    term: &Monomial,
+) -> Result<Option<Monomial>, ExpandError>
+    ensures { IsMade result (product_of left term.now) }
+{
+    Ok(product_onto(alloc, left, term)?)
+}
+
+/// `times` with a term of its own.
 pub fn times_owned(
     alloc: Global,
     left: &Option<Monomial>,

@@ -1,12 +1,12 @@
-ghost use Rattle.std.specs.Prelude.{◌≡◌, ℕ, OnOk};
+ghost use Rattle.std.specs.Prelude.{◌≡◌, ℕ, OnOk, Some};
 ghost use Rattle.std.specs.Bool.{OnTrue};
 ghost use Rattle.form_expand.specs.Listing.{nothing};
 ghost use Rattle.form_expand.specs.Left.{times_by};
 ghost use Rattle.form_expand.specs.Next.{Gives, Goes};
-ghost use Rattle.form_expand.specs.Walks.{walk_left, walk_whole};
+ghost use Rattle.form_expand.specs.Walks.{HasOne, walk_left, walk_whole};
 
 use crate::ExpandError;
-use crate::times::times;
+use crate::times::{times, times_onto};
 use crate::whole::Whole;
 use form_base::Cause;
 use form_term::Monomial;
@@ -45,6 +45,31 @@ impl<'a> Walk<'a> {
         ensures { OnTrue result ((max : ℕ) → walk_left max self.now ≡ nothing) }
     {
         self.whole.end.is_none() && self.place >= self.whole.len()
+    }
+
+    /// Whether it has one term left, and isn't refused before or behind it.
+    pub fn has_one(&self, limit: u64) -> bool
+        ensures { OnTrue result (HasOne limit self.now) }
+    {
+        self.whole.end.is_none()
+            && self.whole.len().saturating_sub(self.place) == 1
+            && self.count < limit
+    }
+
+    /// A term times the last one, behind which nothing is left.
+    pub fn last_times(
+        &mut self,
+        alloc: Global,
+        left: Monomial,
+    ) -> Result<Option<Monomial>, ExpandError>
+        ensures { (max : ℕ) → HasOne max self.old → Gives result (times_by (Some left) (walk_left max self.old)) (walk_left max self.new) }
+    {
+        let Some(term) = self.whole.at(self.place) else {
+            return Ok(None);
+        };
+        let made = times_onto(alloc, left, term)?;
+        self.place += 1;
+        Ok(made)
     }
 
     /// A front of a product times the next term with which it isn't 0.

@@ -1,6 +1,8 @@
 ghost use Rattle.std.specs.Prelude.{◌≡◌, ◌+◌, ◌<◌, ◌^◌, Some, None, is_some, OnSome, length};
+ghost use Rattle.std.specs.Bool.{OnTrue};
 ghost use Rattle.form_expand.specs.Listing.{nothing, single, refusal};
 ghost use Rattle.form_expand.specs.Kept.{kept_terms, listing, end_of, ended_by, BeginsAt};
+ghost use Rattle.form_expand.specs.Walks.{IsAlone};
 
 use crate::ExpandError;
 use crate::refusal::Refusal;
@@ -119,6 +121,13 @@ impl Whole<'_> {
         ensures room { OnSome result (place + 1 < 2 ^ 64) }
     {
         self.kept.as_slice().get(place)
+    }
+
+    /// Whether it has one term, isn't refused behind it, and may have one.
+    pub fn is_alone(&self, limit: u64) -> bool
+        ensures { OnTrue result (IsAlone limit self.now) }
+    {
+        limit != 0 && self.end.is_none() && self.len() == 1
     }
 
     /// What comes behind the last term: nothing, or the refusal, which goes.

@@ -1,10 +1,7 @@
 -- What is put in between the parts of a word that was cut.
-use Rattle.std.proofs.Common.{◌≡◌, ℕ, zero, suc, ◌+◌, ◌-◌, ◌<◌, ◌≤◌, Bool, true, false, ◌||◌, List, [], ◌∷◌, ◌++◌, Option, Some, None, Result, Ok, Err, IfOk, if◌then◌else◌, length, get_or, flat_map, map, take, drop, replicate, refl, sym, ap, subst, ◌∙◌, append_assoc, append-nil, length-drop, arith}
-use Rattle.std.specs.Prelude.{slice_get}
-use Rattle.std.specs.List.{list_any}
+use Rattle.std.proofs.Common.{◌≡◌, ℕ, zero, suc, ◌+◌, ◌-◌, ◌<◌, ◌≤◌, Bool, true, false, ◌||◌, List, [], ◌∷◌, ◌++◌, Option, Some, None, Result, Ok, Err, IfOk, if◌then◌else◌, length, get_or, flat_map, map, take, drop, replicate, refl, sym, ap, ◌∙◌, append_assoc, append-nil, length-drop, arith}
 use Rattle.std.specs.Option.{unwrap_or}
 use Rattle.std.proofs.lemmas.List.{map-append, map_more, take_all}
-use Rattle.std.proofs.lemmas.Result.{IfOk-weaker}
 use Rattle.form_term.specs.declared.monomial.Monomial.{Monomial}
 use Rattle.form_term.specs.Term.{Call, Term, nothing, of_others}
 use Rattle.form_tree.specs.Tree.{Sum}
@@ -23,7 +20,7 @@ use Rattle.form_expand.specs.Parts.{part_list}
 use Rattle.form_expand.specs.Singles.{once}
 use Rattle.form_flow.specs.declared.between.Inserted.{Inserted}
 use Rattle.form_flow.specs.Rests.{cut_list, first_cut, names_in, place_of, put_in_named}
-use Rattle.form_flow.specs.Rewriting.{Rest, and_taken, any_match, behind_by, behind_first, from_cuts, is_by_match, list_of_rest, no_list, put_in_by, right_with, word_factor}
+use Rattle.form_flow.specs.Rewriting.{Rest, and_taken, any_match, behind_first, from_cuts, is_by_match, list_of_rest, no_list, put_in_by, right_with, word_factor}
 use Rattle.form_flow.specs.Words.{front, of_word}
 
 -- ---- cuts with what is put in there

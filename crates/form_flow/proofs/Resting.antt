@@ -1,11 +1,10 @@
 -- What is left of a term while parts take from it.
-use Rattle.std.proofs.Common.{◌≡◌, true≢false, ℕ, ◌+◌, ◌<◌, ◌≤◌, drop, get_or, length, option_map, arith, Bool, true, false, cond, List, [], ◌∷◌, ◌++◌, Option, Some, None, fold, map, refl, sym, ap, subst, ◌∙◌}
+use Rattle.std.proofs.Common.{◌≡◌, true≢false, ℕ, ◌+◌, ◌<◌, ◌≤◌, drop, get_or, length, option_map, arith, Bool, true, false, cond, List, [], ◌∷◌, Option, Some, None, Box, Global, fold, map, refl, sym, ap, subst, ◌∙◌}
 use Rattle.std.specs.Prelude.{All, slice_get}
 use Rattle.std.proofs.lemmas.List.{length-map}
 use Rattle.std.proofs.lemmas.List.Elements.{recursion_from_All}
 use Rattle.std.proofs.lemmas.Option.{slice_get-map, slice_get_read}
 use Rattle.form_tree.specs.Pattern.{Factors, pieces_of_factors}
-use Rattle.form_tree.specs.Tree.{Sum}
 use Rattle.form_term.specs.Term.{Term}
 use Rattle.form_term.specs.declared.monomial.Monomial.{Monomial}
 use Rattle.form_rewrite.specs.declared.taken.Taken.{Taken}
@@ -14,7 +13,8 @@ use Rattle.form_rewrite.specs.Taking.{take_out, taken_so_far}
 use Rattle.form_expand.specs.Left.{row}
 use Rattle.form_expand.specs.Listing.{Listing, single}
 use Rattle.form_expand.specs.Parts.{part_list}
-use Rattle.form_flow.specs.Applied.{IsApplied}
+use Rattle.form_expand.specs.declared.row.Part as parts
+use Rattle.form_flow.specs.Applied.{IsApplied, IsPut}
 use Rattle.form_flow.specs.Parts.{ArePartsOf, IsPart}
 use Rattle.form_flow.specs.Ready.{IsReady, rewriting_of}
 use Rattle.form_flow.specs.Rests.{cut_list, rest_in}
@@ -22,7 +22,9 @@ use Rattle.form_flow.specs.Rewriting.{Part, Rest, and_part, and_taken, list_of_r
 use Rattle.form_flow.proofs.Zips.{zip_end, zip_next}
 use Rattle.form_flow.specs.declared.compiled.CompiledPart.{CompiledPart}
 use Rattle.form_flow.specs.declared.rest.Remaining.{Remaining}
-use Rattle.form_flow.specs.declared.rest.Applied.TheVariants.{Unchanged, Put}
+use Rattle.form_flow.specs.declared.between.Inserted.{Inserted}
+use Rattle.form_flow.specs.declared.rest.Applied.{Applied}
+use Rattle.form_flow.specs.declared.rest.Applied.TheVariants as applied
 
 -- what a part takes, by its trees
 pub part_takes : (max : ℕ) (r : Rest) (part : CompiledPart) (p : Part) (cuts : List ℕ) (x : Option Taken) → cuts ≡ map (λ c. c.0) r.cuts → IsReady max part → IsPart (rewriting_of part) p
@@ -63,27 +65,27 @@ unmatched max r (p ∷ ps) h =
 
 -- a term as it was
 pub stays_same : (max : ℕ) (ps : List Part) (m : Monomial) (r : Remaining) (same : Monomial) → rest_in r ≡ rest_of max ps m.term → r.has_matched ≡ false
-    → m.coefficient ≡ same.coefficient → r.left ≡ same.term → IsApplied m (rewritten max ps m) (Unchanged same)
+    → m.coefficient ≡ same.coefficient → r.left ≡ same.term → IsApplied m (rewritten max ps m) (applied.One same)
 unfolding rewritten
 stays_same max ps m r same is none number left =
     let test : (rest_of max ps m.term).has_matched ≡ false = ap (λ x. x.has_matched) (sym is) ∙ none in
     let kept : r.left ≡ m.term = ap (λ x. x.left) (is ∙ unmatched max (untouched m.term) ps test) in
-    subst (λ (b : Bool). IsApplied m (cond b (Some (list_of_rest max m (rest_of max ps m.term))) None) (Unchanged same))
+    subst (λ (b : Bool). IsApplied m (cond b (Some (list_of_rest max m (rest_of max ps m.term))) None) (applied.One same))
     (sym test) (ap (λ n. record { coefficient = n; term = same.term }) (sym number) ∙ ap (λ t. record { coefficient = m.coefficient; term = t }) (sym left ∙ kept))
 
 -- the row of what is left and what is put in
-pub is_put : (max : ℕ) (ps : List Part) (m first : Monomial) (r : Remaining) (l : Listing) → r.limit ≡ max → rest_in r ≡ rest_of max ps m.term → r.has_matched ≡ true
+pub is_put : (max : ℕ) (ps : List Part) (m first : Monomial) (r : Remaining) (row : Box Listing Global) → r.limit ≡ max → rest_in r ≡ rest_of max ps m.term → r.has_matched ≡ true
     → m.coefficient ≡ first.coefficient → r.left ≡ first.term
-    → l ≡ list_of_rest max first (record { left = first.term; cuts = map (cut_list max) r.between.items; behind = map (part_list max) r.behind.items; has_matched = true })
-    → IsApplied m (rewritten max ps m) (Put l)
+    → row.value ≡ list_of_rest max first (record { left = first.term; cuts = map (cut_list max) r.between.items; behind = map (part_list max) r.behind.items; has_matched = true })
+    → IsApplied m (rewritten max ps m) (applied.Put row)
 unfolding rewritten
-is_put max ps m first r l within is matched number left made =
+is_put max ps m first r row within is matched number left made =
     let test : (rest_of max ps m.term).has_matched ≡ true = ap (λ x. x.has_matched) (sym is) ∙ matched in
     let same : record { left = r.left; cuts = map (cut_list max) r.between.items; behind = map (part_list max) r.behind.items; has_matched = true } ≡ rest_of max ps m.term =
     ap (λ n. record { left = r.left; cuts = map (cut_list n) r.between.items; behind = map (part_list n) r.behind.items; has_matched = true }) (sym within)
     ∙ ap (λ b. record { left = r.left; cuts = map (cut_list r.limit) r.between.items; behind = map (part_list r.limit) r.behind.items; has_matched = b }) (sym matched)
     ∙ is in
-    subst (λ (b : Bool). IsApplied m (cond b (Some (list_of_rest max m (rest_of max ps m.term))) None) (Put l))
+    subst (λ (b : Bool). IsApplied m (cond b (Some (list_of_rest max m (rest_of max ps m.term))) None) (applied.Put row))
     (sym test)
     (made
     ∙ ap (λ t. list_of_rest max first (record { left = t; cuts = map (cut_list max) r.between.items; behind = map (part_list max) r.behind.items; has_matched = true })) (sym left)
@@ -91,27 +93,31 @@ is_put max ps m first r l within is matched number left made =
     ∙ ap (λ c. list_of_rest max (record { coefficient = c; term = first.term }) (rest_of max ps m.term)) (sym number))
 
 -- a part alone that doesn't match
-pub one_unmatched : (max : ℕ) (p : Part) (m : Monomial) → untouched m.term ≡ and_part max (untouched m.term) p → IsApplied m (rewritten max (p ∷ []) m) (Unchanged m)
+pub one_unmatched : (max : ℕ) (p : Part) (m : Monomial) (t : Term) → untouched m.term ≡ and_part max (untouched m.term) p → t ≡ m.term
+    → IsApplied m (rewritten max (p ∷ []) m) (applied.One (record { coefficient = m.coefficient; term = t }))
 unfolding rewritten
-one_unmatched max p m is = subst (λ (r : Rest). IsApplied m (cond r.has_matched (Some (list_of_rest max m r)) None) (Unchanged m)) is refl
+one_unmatched max p m t is same =
+    subst (λ (r : Rest). IsApplied m (cond r.has_matched (Some (list_of_rest max m r)) None) (applied.One (record { coefficient = m.coefficient; term = t })))
+    is (ap (λ u. record { coefficient = m.coefficient; term = u }) same)
 
 -- a part alone that matches once
-pub one_matched : (max : ℕ) (p : Part) (m : Monomial) (left : Term) (bs : List Binding) (l : Listing)
+pub one_matched : (max : ℕ) (p : Part) (m : Monomial) (left : Term) (bs : List Binding) (a : Applied)
     → and_taken max p.right (untouched m.term) (Some (taken_so_far left [] (bs ∷ []) 1)) ≡ and_part max (untouched m.term) p
-    → l ≡ row max (single (record { coefficient = m.coefficient; term = left }) ∷ right_with max p.right bs ∷ []) → IsApplied m (rewritten max (p ∷ []) m) (Put l)
+    → IsPut (row max (single (record { coefficient = m.coefficient; term = left }) ∷ right_with max p.right bs ∷ [])) a → IsApplied m (rewritten max (p ∷ []) m) a
 unfolding rewritten
-one_matched max p m left bs l is made = subst (λ (r : Rest). IsApplied m (cond r.has_matched (Some (list_of_rest max m r)) None) (Put l)) is made
+one_matched max p m left bs a is put = subst (λ (r : Rest). IsApplied m (cond r.has_matched (Some (list_of_rest max m r)) None) a) is put
 
--- and that is taken from by all that a match takes
-pub one_taken : (max : ℕ) (p : Part) (m : Monomial) (before after : Remaining) (x : Taken) → rest_in before ≡ untouched m.term → before.limit ≡ max → after.limit ≡ before.limit
-    → rest_in after ≡ and_taken before.limit p.right (rest_in before) (Some x) → and_taken max p.right (untouched m.term) (Some x) ≡ and_part max (untouched m.term) p
-    → rest_in after ≡ rest_of after.limit (p ∷ []) m.term
-one_taken max p m before after x none within same is takes =
+-- what a match takes for the first
+pub one_taken : (max : ℕ) (p : Part) (t : Term) (after : Remaining) (x : Taken) (cuts : List Inserted) (lists : List parts.Part) → cuts ≡ [] → lists ≡ [] → after.limit ≡ max
+    → rest_in after ≡ and_taken max p.right (record { left = x.left; cuts = map (cut_list max) cuts; behind = map (part_list max) lists; has_matched = false }) (Some x)
+    → and_taken max p.right (untouched t) (Some x) ≡ and_part max (untouched t) p
+    → rest_in after ≡ rest_of after.limit (p ∷ []) t
+one_taken max p t after x cuts lists uncut none within is takes =
     is
-    ∙ ap (λ n. and_taken n p.right (rest_in before) (Some x)) within
-    ∙ ap (λ r. and_taken max p.right r (Some x)) none
+    ∙ ap (λ cs. and_taken max p.right (record { left = x.left; cuts = map (cut_list max) cs; behind = map (part_list max) lists; has_matched = false }) (Some x)) uncut
+    ∙ ap (λ ls. and_taken max p.right (record { left = x.left; cuts = []; behind = map (part_list max) ls; has_matched = false }) (Some x)) none
     ∙ takes
-    ∙ ap (λ n. and_part n (untouched m.term) p) (sym (same ∙ within))
+    ∙ ap (λ n. and_part n (untouched t) p) (sym within)
 
 -- a group of one part, by its trees
 pub alone : (parts : List CompiledPart) (part : CompiledPart) (ps : List Part) → ArePartsOf (map rewriting_of parts) ps → length parts ≡ 1 → part ≡ get_or parts 0 part

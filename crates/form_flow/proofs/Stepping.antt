@@ -1,5 +1,5 @@
 -- Outputs step by step, by the laws of lists.
-use Rattle.std.proofs.Common.{◌≡◌, ℕ, suc, ◌+◌, ◌-◌, ◌<◌, ◌≤◌, List, [], ◌∷◌, ◌++◌, Option, Some, None, Result, Ok, Err, Vec, Global, drop, fold, length, refl, sym, ap, subst, ◌∙◌, arith}
+use Rattle.std.proofs.Common.{◌≡◌, ℕ, suc, ◌+◌, ◌-◌, ◌<◌, ◌≤◌, List, [], ◌∷◌, ◌++◌, Option, Some, None, Err, Vec, Box, Global, drop, fold, refl, sym, ap, ◌∙◌, arith}
 use Rattle.std.proofs.lemmas.List.Sums.{fold_push}
 use Rattle.form_base.specs.declared.cause.Cause.{Cause}
 use Rattle.form_base.specs.declared.cause.Cause.TheVariants.{ExpandLimit}
@@ -8,9 +8,10 @@ use Rattle.form_expand.specs.declared.error.ExpandError.{ExpandError}
 use Rattle.form_expand.specs.declared.error.ExpandError.TheVariants.{Refused, Memory}
 use Rattle.form_expand.specs.Listing.{Listing, nothing, single, refusal, before, followed, limited}
 use Rattle.form_expand.specs.Next.{Gives}
-use Rattle.form_flow.specs.Applied.{IsApplied}
-use Rattle.form_flow.specs.declared.rest.Applied.TheVariants.{Unchanged, Put}
-use Rattle.form_flow.specs.Left.{Steps, and_outer, frame_of, left_in, left_of_frame, left_of_frames, left_waiting, left_with, on_its_way}
+use Rattle.form_flow.specs.Applied.{IsApplied, IsPut}
+use Rattle.form_flow.specs.declared.rest.Applied.{Applied}
+use Rattle.form_flow.specs.declared.rest.Applied.TheVariants as applied
+use Rattle.form_flow.specs.Left.{Passes, Steps, and_outer, left_in, left_of_frame, left_of_frames, left_waiting, left_with, on_its_way}
 use Rattle.form_flow.specs.Rewriting.{Part, carried, going_on, outputs, rewritten, through, through_each}
 use Rattle.form_flow.specs.declared.outputs.Frame.{Frame}
 use Rattle.form_flow.specs.declared.outputs.State.{State}
@@ -84,18 +85,12 @@ row_fails laws limits go k rest l next new Memory is = tt
 
 -- ---- a term on its way
 
-pub no_statement : (laws : Laws) (max : ℕ) (m : Monomial) (pss : List (List Part)) (rest : Listing) → pss ≡ []
-    → followed (carried max pss m) rest ≡ before m rest
-unfolding carried
-no_statement laws max m pss rest is =
-    ap (λ qss. followed (carried max qss m) rest) is ∙ laws.begun m nothing rest ∙ ap (before m) (laws.first rest)
-
-pub not_acted : (max : ℕ) (m : Monomial) (pss later : List (List Part)) (ps : List Part) → pss ≡ ps ∷ later → rewritten max ps m ≡ None
+not_acted : (max : ℕ) (m : Monomial) (pss later : List (List Part)) (ps : List Part) → pss ≡ ps ∷ later → rewritten max ps m ≡ None
     → carried max pss m ≡ carried max later m
 unfolding carried
 not_acted max m pss later ps is none = ap (λ qss. carried max qss m) is ∙ ap (going_on (carried max later) m) none
 
-pub acted : (max : ℕ) (m : Monomial) (pss later : List (List Part)) (ps : List Part) (l : Listing) → pss ≡ ps ∷ later → rewritten max ps m ≡ Some l
+acted : (max : ℕ) (m : Monomial) (pss later : List (List Part)) (ps : List Part) (l : Listing) → pss ≡ ps ∷ later → rewritten max ps m ≡ Some l
     → carried max pss m ≡ through (carried max later) l
 unfolding carried
 acted max m pss later ps l is some = ap (λ qss. carried max qss m) is ∙ ap (going_on (carried max later) m) some
@@ -143,53 +138,94 @@ open_frame max s pss popped f none last = left_none max s pss none ∙ ap (limit
 
 -- the row of a statement that acted, beside those before it
 module _ (laws : Laws) (limits : Limits) (max : ℕ) (s : State) (pss : List (List Part)) (none : s.waiting ≡ None) (f : Frame) where
-  pub row_on : (m : Monomial) (next : Listing) (pushed : Vec Frame Global) → f.row ≡ before m next → pushed.items ≡ s.frames.items ++ (record { row = next; behind = f.behind }) ∷ []
+  pub row_on : (m : Monomial) (g : Frame) (pushed : Vec Frame Global) → f.row.value ≡ before m g.row.value → g.behind ≡ f.behind → pushed.items ≡ s.frames.items ++ g ∷ []
       → left_in max (record { given = s.given; waiting = Some (record { item = m; behind = f.behind }); frames = pushed }) pss ≡ left_with max f s pss
   unfolding left_in
-  row_on m next pushed is put =
-      ap (λ x. limited (max - s.given) (followed (carried max (drop f.behind pss) m) x)) (one_frame max pss s.frames.items pushed.items (record { row = next; behind = f.behind }) put)
-      ∙ row_gives laws limits (carried max (drop f.behind pss)) (max - s.given) (left_of_frames max pss s.frames.items) m f.row next is
+  row_on m g pushed is same put =
+      let go = carried max (drop f.behind pss) in
+      let rest = left_of_frames max pss s.frames.items in
+      ap (λ x. limited (max - s.given) (followed (go m) x)) (one_frame max pss s.frames.items pushed.items g put)
+      ∙ ap (λ n. limited (max - s.given) (followed (go m) (followed (through (carried max (drop n pss)) g.row.value) rest))) same
+      ∙ row_gives laws limits go (max - s.given) rest m f.row.value g.row.value is
 
-  pub row_last : (m : Monomial) (next : Listing) → f.row ≡ before m next → next ≡ nothing
+  pub row_last : (m : Monomial) (next : Listing) → f.row.value ≡ before m next → next ≡ nothing
       → left_in max (record { given = s.given; waiting = Some (record { item = m; behind = f.behind }); frames = s.frames }) pss ≡ left_with max f s pss
   unfolding left_in
-  row_last m next is done = row_gives_last laws limits (carried max (drop f.behind pss)) (max - s.given) (left_of_frames max pss s.frames.items) m f.row next is done
+  row_last m next is done = row_gives_last laws limits (carried max (drop f.behind pss)) (max - s.given) (left_of_frames max pss s.frames.items) m f.row.value next is done
 
-  pub row_off : f.row ≡ nothing → left_in max s pss ≡ left_with max f s pss
+  pub row_off : f.row.value ≡ nothing → left_in max s pss ≡ left_with max f s pss
   row_off is =
       left_none max s pss none
-      ∙ row_ends laws limits (carried max (drop f.behind pss)) (max - s.given) (left_of_frames max pss s.frames.items) f.row is
+      ∙ row_ends laws limits (carried max (drop f.behind pss)) (max - s.given) (left_of_frames max pss s.frames.items) f.row.value is
 
-  pub row_err : (next new : Listing) (error : ExpandError) → Gives (Err error) f.row next → Steps (Err error) (left_with max f s pss) new
-  row_err next new error is = row_fails laws limits (carried max (drop f.behind pss)) (max - s.given) (left_of_frames max pss s.frames.items) f.row next new error is
+  pub row_err : (next new : Listing) (error : ExpandError) → Gives (Err error) f.row.value next → Steps (Err error) (left_with max f s pss) new
+  row_err next new error is = row_fails laws limits (carried max (drop f.behind pss)) (max - s.given) (left_of_frames max pss s.frames.items) f.row.value next new error is
+
+-- ---- a term has gone through statements
+
+module _ (laws : Laws) (max : ℕ) (s : State) (w : Waiting) (pss : List (List Part)) where
+  abbrev on_its : Listing → Listing
+  on_its l = limited (max - s.given) (followed l (left_of_frames max pss s.frames.items))
+
+  pub goes_out : (m : Monomial) → carried max (drop w.behind pss) w.item ≡ single m
+      → left_in max (on_its_way w s) pss ≡ limited (max - s.given) (before m (left_of_frames max pss s.frames.items))
+  unfolding left_in
+  goes_out m is =
+      let rest = left_of_frames max pss s.frames.items in
+      ap on_its is ∙ ap (limited (max - s.given)) (laws.begun m nothing rest ∙ ap (before m) (laws.first rest))
+
+  pub goes_nowhere : s.waiting ≡ None → carried max (drop w.behind pss) w.item ≡ nothing → left_in max s pss ≡ left_in max (on_its_way w s) pss
+  unfolding left_in
+  goes_nowhere none is =
+      let rest = left_of_frames max pss s.frames.items in
+      left_none max s pss none ∙ sym (ap on_its is ∙ ap (limited (max - s.given)) (laws.first rest))
+
+  pub goes_into : (f : Frame) → carried max (drop w.behind pss) w.item ≡ left_of_frame max pss f → left_with max f s pss ≡ left_in max (on_its_way w s) pss
+  unfolding left_in
+  goes_into f is = ap on_its (sym is)
+
+  pub goes_wrong : (limits : Limits) (error : ExpandError) (new : Listing) → Passes max pss (Err error) (carried max (drop w.behind pss) w.item)
+      → Steps (Err error) (left_in max (on_its_way w s) pss) new
+  unfolding left_in
+  goes_wrong limits (Refused cause) new is =
+      let rest = left_of_frames max pss s.frames.items in
+      ap on_its is ∙ ap (limited (max - s.given)) (laws.refused cause rest) ∙ limits.refused (max - s.given) cause
+  goes_wrong limits Memory new is = tt
 
 -- ---- a term goes through the next statement
 
-pub goes_out : (laws : Laws) (max : ℕ) (s : State) (w : Waiting) (pss : List (List Part)) → drop w.behind pss ≡ []
-    → left_in max (on_its_way w s) pss ≡ limited (max - s.given) (before w.item (left_of_frames max pss s.frames.items))
-unfolding left_in
-goes_out laws max s w pss past = ap (limited (max - s.given)) (no_statement laws max w.item (drop w.behind pss) (left_of_frames max pss s.frames.items) past)
+pub comes_out : (max : ℕ) (m : Monomial) (pss : List (List Part)) → pss ≡ [] → carried max pss m ≡ single m
+unfolding carried
+comes_out max m pss past = ap (λ qss. carried max qss m) past
 
-pub goes_past : (max : ℕ) (s : State) (w : Waiting) (pss : List (List Part)) (ps : List Part) → drop w.behind pss ≡ ps ∷ drop (w.behind + 1) pss → rewritten max ps w.item ≡ None
-    → left_in max (on_its_way (record { item = w.item; behind = w.behind + 1 }) s) pss ≡ left_in max (on_its_way w s) pss
-unfolding left_in
-goes_past max s w pss ps here none =
-    ap (λ x. limited (max - s.given) (followed x (left_of_frames max pss s.frames.items))) (sym (not_acted max w.item (drop w.behind pss) (drop (w.behind + 1) pss) ps here none))
+module _ (max : ℕ) (m : Monomial) (pss later : List (List Part)) (ps : List Part) (here : pss ≡ ps ∷ later) where
+  acts : (l : Listing) (a : Applied) → ((k : Listing) → IsPut k a → k ≡ l) → (IsApplied m None a → ⊥) → IsApplied m (rewritten max ps m) a
+      → carried max pss m ≡ through (carried max later) l
+  acts l a put never is = acted max m pss later ps l here (some (rewritten max ps m) is)
+    where
+      some : (o : Option Listing) → IsApplied m o a → o ≡ Some l
+      some None h = absurd (never h)
+      some (Some k) h = ap Some (put k h)
 
-pub goes_into : (max : ℕ) (s : State) (w : Waiting) (pss : List (List Part)) (ps : List Part) (l : Listing)
-    → drop w.behind pss ≡ ps ∷ drop (w.behind + 1) pss → rewritten max ps w.item ≡ Some l
-    → left_with max (frame_of l (w.behind + 1)) s pss ≡ left_in max (on_its_way w s) pss
-unfolding left_in
-goes_into max s w pss ps l here some =
-    ap (λ x. limited (max - s.given) (followed x (left_of_frames max pss s.frames.items))) (sym (acted max w.item (drop w.behind pss) (drop (w.behind + 1) pss) ps l here some))
+  pub becomes : (last : (l : Listing) → followed l nothing ≡ l) (next : Monomial) → IsApplied m (rewritten max ps m) (applied.One next)
+      → carried max later next ≡ carried max pss m
+  becomes last next is = by (rewritten max ps m) refl is
+    where
+      by : (o : Option Listing) → rewritten max ps m ≡ o → IsApplied m o (applied.One next) → carried max later next ≡ carried max pss m
+      by None e h = ap (carried max later) h ∙ sym (not_acted max m pss later ps here e)
+      by (Some l) e h =
+          let go = carried max later in
+          sym (acted max m pss later ps l here e
+          ∙ ap (through go) h ∙ through_before go next nothing ∙ ap (followed (go next)) (through_nothing go) ∙ last (go next))
 
-pub unchanged_none : (m same : Monomial) (o : Option Listing) → IsApplied m o (Unchanged same) → (o ≡ None) × (same ≡ m)
-unchanged_none m same None h = (refl, h)
-unchanged_none m same (Some l) h = absurd h
+  pub becomes_nothing : IsApplied m (rewritten max ps m) applied.Nothing → carried max pss m ≡ nothing
+  becomes_nothing is = acts nothing applied.Nothing (λ k h. h) (λ h. h) is ∙ through_nothing (carried max later)
 
-pub put_some : (m : Monomial) (l : Listing) (o : Option Listing) → IsApplied m o (Put l) → o ≡ Some l
-put_some m l None h = absurd h
-put_some m l (Some k) h = ap Some (sym h)
+  pub becomes_refused : (cause : Cause) → IsApplied m (rewritten max ps m) (applied.Refused cause) → carried max pss m ≡ refusal cause
+  becomes_refused cause is = acts (refusal cause) (applied.Refused cause) (λ k h. h) (λ h. h) is ∙ through_refusal (carried max later) cause
+
+  pub becomes_row : (row : Box Listing Global) → IsApplied m (rewritten max ps m) (applied.Put row) → carried max pss m ≡ through (carried max later) row.value
+  becomes_row row is = acts row.value (applied.Put row) (λ k h. sym h) (λ h. h) is
 
 pub still_none : (max : ℕ) (s : State) (w : Option Waiting) (pss : List (List Part)) → s.waiting ≡ None → w ≡ None
     → left_in max (record { given = s.given; waiting = w; frames = s.frames }) pss ≡ left_in max s pss

@@ -1,6 +1,6 @@
 -- Stretches of the word of a term make terms.
-use Rattle.std.proofs.Common.{◌≡◌, ℕ, zero, suc, ◌+◌, ◌<◌, ◌≤◌, ◌==◌, max, Bool, false, List, [], ◌∷◌, Option, Some, None, length, map, take, drop, refl, sym, ap, subst, ◌∙◌, arith}
-use Rattle.std.specs.Prelude.{All, nat_abs, sum}
+use Rattle.std.proofs.Common.{◌≡◌, ℕ, zero, suc, ◌<◌, ◌≤◌, ◌==◌, Bool, false, List, [], ◌∷◌, Some, length, take, drop, refl, ap, ◌∙◌, arith}
+use Rattle.std.specs.Prelude.{All, nat_abs}
 use Rattle.std.specs.List.{sum_by}
 use Rattle.std.proofs.lemmas.List.Sums.{sum-map, sum_by-take-le, sum_by-take-drop}
 use Rattle.std.proofs.lemmas.List.Elements.{All-take, All-drop, All-nil}
@@ -8,8 +8,7 @@ use Rattle.form_term.specs.declared.power.Power.{Power}
 use Rattle.form_term.specs.declared.power.DotPower.{DotPower}
 use Rattle.form_term.specs.declared.index.Component.{Component}
 use Rattle.form_term.specs.declared.index.Delta.{Delta}
-use Rattle.form_term.specs.Pieces.{deepest}
-use Rattle.form_term.specs.Term.{Term, Others, Call, IsTerm, IsCall, AreFactors, nothing, of_others, size, depth, size_of_call, depth_of_calls, largest_exponent, largest_size, largest_depth}
+use Rattle.form_term.specs.Term.{Term, Call, IsTerm, IsCall, nothing, of_others, size_of_call, depth_of_calls, largest_exponent}
 use Rattle.form_term.specs.TermLaws.{nothing_lawful}
 use Rattle.form_term.specs.Terms.{term}
 use Rattle.form_flow.specs.Words.{front, of_word}

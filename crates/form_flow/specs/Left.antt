@@ -3,8 +3,10 @@ use Rattle.std.specs.Prelude.{◌≡◌, ℕ, ◌-◌, List, drop, fold, Option,
 use Rattle.form_check.specs.declared.checked.Rewriting.{Rewriting}
 use Rattle.form_expand.specs.declared.error.ExpandError.{ExpandError}
 use Rattle.form_expand.specs.declared.error.ExpandError.TheVariants.{Refused, Memory}
-use Rattle.form_expand.specs.Listing.{Listing, nothing, refusal, before, followed, limited}
+use Rattle.form_expand.specs.Listing.{Listing, nothing, single, refusal, before, followed, limited}
 use Rattle.form_flow.specs.declared.outputs.Frame.{Frame}
+use Rattle.form_flow.specs.declared.outputs.Gone.{Gone}
+use Rattle.form_flow.specs.declared.outputs.Gone.TheVariants as gone
 use Rattle.form_flow.specs.declared.outputs.Outputs.{Outputs}
 use Rattle.form_flow.specs.declared.outputs.State.{State}
 use Rattle.form_flow.specs.declared.outputs.Step.{Step}
@@ -14,7 +16,7 @@ use Rattle.form_flow.specs.Rewriting.{Part, carried, through}
 
 -- a statement that acted on the path: the terms that are left of its row go through the statements from a place on
 abbrev pub left_of_frame : ℕ → List (List Part) → Frame → Listing
-left_of_frame max pss f = through (carried max (drop f.behind pss)) f.row
+left_of_frame max pss f = through (carried max (drop f.behind pss)) f.row.value
 
 -- and then what is left of those before it
 abbrev pub and_outer : ℕ → List (List Part) → Listing → Frame → Listing
@@ -44,9 +46,6 @@ abbrev pub on_its_way : Waiting → State → State
 on_its_way w s = record { given = s.given; waiting = Some w; frames = s.frames }
 
 -- the same with a further statement that acted, the innermost, in place of a term
-abbrev pub frame_of : Listing → ℕ → Frame
-frame_of row behind = record { row = row; behind = behind }
-
 abbrev pub left_with : ℕ → Frame → State → List (List Part) → Listing
 left_with max f s pss = limited (max - s.given) (and_outer max pss (left_of_frames max pss s.frames.items) f)
 
@@ -57,3 +56,11 @@ Steps (Ok (Gives m)) old new = old ≡ before m new
 Steps (Ok Done) old new = (old ≡ nothing) × (new ≡ nothing)
 Steps (Err (Refused cause)) old new = old ≡ refusal cause
 Steps (Err Memory) old new = Unit {0}
+
+-- what a term becomes that goes through statements, by what it comes to on its way
+abbrev pub Passes : ℕ → List (List Part) → Result Gone ExpandError → Listing → Type 0
+Passes max pss (Ok (gone.Out m)) l = l ≡ single m
+Passes max pss (Ok gone.Nothing) l = l ≡ nothing
+Passes max pss (Ok (gone.Acts f)) l = l ≡ left_of_frame max pss f
+Passes max pss (Err (Refused cause)) l = l ≡ refusal cause
+Passes max pss (Err Memory) l = Unit {0}

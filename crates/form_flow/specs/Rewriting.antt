@@ -1,5 +1,5 @@
 -- What an `id` with its `also`s makes of a term, and what a module's statements make of it.
-use Rattle.std.specs.Prelude.{ℕ, ◌+◌, ◌-◌, Bool, true, false, if◌then◌else◌, pos, List, [], ◌∷◌, ◌++◌, map, flat_map, fold, take, drop, replicate, Option, Some, None, slice_index_or}
+use Rattle.std.specs.Prelude.{ℕ, ◌-◌, Bool, true, false, if◌then◌else◌, pos, List, [], ◌∷◌, ◌++◌, map, flat_map, fold, take, drop, replicate, Option, Some, None, slice_index_or}
 use Rattle.std.specs.List.{list_any}
 use Rattle.form_base.specs.declared.cause.Cause.{Cause}
 use Rattle.form_base.specs.declared.taking.Taking.{Taking}

@@ -1,7 +1,7 @@
 //! Terms carried out to whatever takes what they become.
-ghost use Rattle.std.specs.Prelude.{◌≡◌, ◌++◌, ◌∷◌, [], List, OnErr, OnOk};
+ghost use Rattle.std.specs.Prelude.{◌≡◌, ◌++◌, ◌∷◌, [], List, Bool, false, OnErr, OnOk};
 ghost use Rattle.form_term.specs.declared.monomial.Monomial.{Monomial as Output};
-ghost use Rattle.form_flow.specs.Answers.{Carries};
+ghost use Rattle.form_flow.specs.Answers.{Carries, is_stop, is_stopped};
 ghost use Rattle.form_flow.specs.Left.{groups_in, outputs_left};
 ghost use Rattle.form_flow.specs.Parts.{AreParts};
 ghost use Rattle.form_flow.specs.Rewriting.{Part as AsTrees, outputs as outputs_of};
@@ -27,9 +27,13 @@ pub trait Emit {
     /// Those that it took, in order.
     ghost emitted: { Self → List Output };
 
+    /// Whether an `emit` has answered that it wants no more. What one behind that makes of it isn't told.
+    ghost has_stopped: { Self → Bool };
+
     fn emit(&mut self, alloc: Global, item: Monomial) -> Result<Go, AllocError>
         ensures taken { OnOk result (emitted self.new ≡ emitted self.old ++ item ∷ []) }
-        ensures unchanged { OnErr result (emitted self.new ≡ emitted self.old) };
+        ensures unchanged { OnErr result (emitted self.new ≡ emitted self.old) }
+        ensures stops { has_stopped self.old ≡ false → has_stopped self.new ≡ is_stop result };
 }
 
 /// How carrying a term out ended.
@@ -44,8 +48,9 @@ pub enum End {
 impl<'a> CompiledModule<'a> {
     /// Gives what a term becomes to `out`, one by one.
     pub fn carry<E: Emit>(&'a self, alloc: Global, value: Frac, term: &Term, out: &mut E) -> End
-        ensures { (pss : List (List AsTrees)) → AreParts self.now.groups pss →
+        ensures carried { (pss : List (List AsTrees)) → AreParts self.now.groups pss →
             Carries (E.emitted out.old) (outputs_of self.now.limit pss (record { coefficient = value; term = term.now })) (E.emitted out.new) result }
+        ensures stopped { E.has_stopped out.old ≡ false → E.has_stopped out.new ≡ is_stopped result }
     {
         let Ok(term) = term.clone() else {
             return End::Memory;
@@ -60,8 +65,9 @@ impl<'a> CompiledModule<'a> {
 
 /// Gives all outputs that are left.
 fn emit_all<E: Emit>(alloc: Global, outputs: Outputs, out: &mut E) -> End
-    ensures { (pss : List (List AsTrees)) → AreParts (groups_in outputs.entry) pss →
+    ensures carried { (pss : List (List AsTrees)) → AreParts (groups_in outputs.entry) pss →
         Carries (E.emitted out.old) (outputs_left outputs.entry pss) (E.emitted out.new) result }
+    ensures stopped { E.has_stopped out.old ≡ false → E.has_stopped out.new ≡ is_stopped result }
 {
     let mut outputs = outputs;
     for _made in 0..u64::MAX {

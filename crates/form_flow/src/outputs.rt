@@ -1,10 +1,10 @@
 //! The outputs of a term, depth first.
-ghost use Rattle.std.specs.Prelude.{◌≡◌, ◌-◌, ℕ, List, None};
+ghost use Rattle.std.specs.Prelude.{◌≡◌, ◌-◌, ℕ, List, None, drop};
 ghost use Rattle.form_expand.specs.Listing.{before, limited};
 ghost use Rattle.form_expand.specs.Next.{Gives as GivesNext};
-ghost use Rattle.form_flow.specs.Left.{Steps, frame_of, groups_in, left_in, left_of_frames, left_with, on_its_way, outputs_left};
+ghost use Rattle.form_flow.specs.Left.{Passes, Steps, groups_in, left_in, left_of_frames, left_with, on_its_way, outputs_left};
 ghost use Rattle.form_flow.specs.Parts.{AreParts};
-ghost use Rattle.form_flow.specs.Rewriting.{Part as AsTrees, outputs as outputs_of};
+ghost use Rattle.form_flow.specs.Rewriting.{Part as AsTrees, carried, outputs as outputs_of};
 
 use crate::compiled::CompiledModule;
 use crate::rest::{Applied, rewritten};
@@ -16,7 +16,7 @@ use std::alloc::Global;
 /// A statement that acted on the path: the terms that are left of its row go through the statements from a place on.
 #[derive(Drop)]
 pub struct Frame<'a> {
-    pub row: Row<'a>,
+    pub row: Box<Row<'a>>,
     pub behind: usize,
 }
 
@@ -34,6 +34,16 @@ pub struct State<'a> {
     pub given: u64,
     pub waiting: Option<Waiting>,
     pub frames: Vec<Frame<'a>>,
+}
+
+/// What a term comes to on its way through the statements.
+#[derive(Drop)]
+pub enum Gone<'a> {
+    /// No statement is left: it is an output.
+    Out(Monomial),
+    Nothing,
+    /// The row of a statement that acted goes on.
+    Acts(Frame<'a>),
 }
 
 /// A step towards the next output.
@@ -115,7 +125,7 @@ fn one_step<'a>(
     }
 }
 
-/// A term goes through the next statement, or is an output where there is none.
+/// A term goes through the statements, and what it comes to goes on.
 #[tactic(none)]
 fn go_on<'a>(
     alloc: Global,
@@ -128,22 +138,41 @@ fn go_on<'a>(
         Steps result (left_in compiled.now.limit (on_its_way waiting state.old) pss) (left_in compiled.now.limit state.new pss) }
 {
     laws::following_lists();
-    let Waiting { item, behind } = waiting;
-    let max = compiled.limit();
-    let Some(group) = compiled.group(behind) else {
-        return give(max, item, state);
-    };
-    match rewritten(alloc, max, group, compiled.nothing(), item)? {
-        Applied::Unchanged(item) => {
-            let behind = behind + 1;
-            state.waiting = Some(Waiting { item, behind });
-            Ok(Step::Moves)
-        }
-        Applied::Put(row) => {
-            let after = behind + 1;
-            next_of_row(alloc, row, after, state)
-        }
+    laws::limited_lists();
+    match through_statements(alloc, compiled, waiting) {
+        Ok(Gone::Out(item)) => give(compiled.limit(), item, state),
+        Ok(Gone::Acts(frame)) => next_of_row(alloc, frame, state),
+        Ok(Gone::Nothing) => Ok(Step::Moves),
+        Err(error) => Err(error),
     }
+}
+
+/// A term goes through one statement after the other, as long as it stays one term.
+#[tactic(none)]
+fn through_statements<'a>(
+    alloc: Global,
+    compiled: &'a CompiledModule<'a>,
+    waiting: Waiting,
+) -> Result<Gone<'a>, ExpandError>
+    ensures { (pss : List (List AsTrees)) → AreParts compiled.now.groups pss →
+        Passes compiled.now.limit pss result (carried compiled.now.limit (drop waiting.behind pss) waiting.item) }
+{
+    laws::following_lists();
+    let max = compiled.limit();
+    let Waiting { item, behind } = waiting;
+    let mut item = item;
+    let mut behind = behind;
+    while let Some(group) = compiled.group(behind) {
+        let after = behind + 1;
+        match rewritten(alloc, max, group, compiled.nothing(), item)? {
+            Applied::One(next) => item = next,
+            Applied::Put(row) => return Ok(Gone::Acts(Frame { row, behind: after })),
+            Applied::Nothing => return Ok(Gone::Nothing),
+            Applied::Refused(cause) => return Err(ExpandError::Refused(cause)),
+        }
+        behind = after;
+    }
+    Ok(Gone::Out(item))
 }
 
 /// An output, where there may be one more.
@@ -171,24 +200,23 @@ fn next_of_frame(alloc: Global, limit: u64, state: &mut State<'_>) -> Result<Ste
     let Some(frame) = state.frames.pop() else {
         return Ok(Step::Done);
     };
-    let Frame { row, behind } = frame;
-    next_of_row(alloc, row, behind, state)
+    next_of_row(alloc, frame, state)
 }
 
 /// The next term of the row of a statement that acted. The row is kept where there may be another one behind it.
 #[tactic(none)]
 fn next_of_row<'a>(
     alloc: Global,
-    row: Row<'a>,
-    behind: usize,
+    frame: Frame<'a>,
     state: &mut State<'a>,
 ) -> Result<Step, ExpandError>
     requires { state.old.waiting ≡ None }
     ensures { (max : ℕ) (pss : List (List AsTrees)) →
-        Steps result (left_with max (frame_of row.entry behind) state.old pss) (left_in max state.new pss) }
+        Steps result (left_with max frame.entry state.old pss) (left_in max state.new pss) }
 {
     laws::following_lists();
     laws::limited_lists();
+    let Frame { row, behind } = frame;
     let mut row = row;
     match row.next(alloc) {
         Ok(Some(item)) => {

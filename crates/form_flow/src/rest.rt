@@ -1,25 +1,28 @@
 //! What is left of a term while the parts of a statement take from it, and the row that comes of that.
-ghost use Rattle.std.specs.Prelude.{◌≡◌, ◌++◌, ◌∷◌, [], IfOk, List, Some, flat_map, map, replicate};
+ghost use Rattle.std.specs.Prelude.{◌≡◌, ◌++◌, ◌∷◌, [], IfOk, List, Some, false, flat_map, map, replicate};
 ghost use Rattle.std.specs.List.{AllZip};
 ghost use Rattle.form_term.specs.declared.monomial.Monomial.{Monomial as Item};
 ghost use Rattle.form_tree.specs.Tree.{Sum, pieces_of_sum};
 ghost use Rattle.form_expand.specs.Expanding.{list_of_sum};
+ghost use Rattle.form_expand.specs.Kept.{listing};
 ghost use Rattle.form_expand.specs.Left.{row};
-ghost use Rattle.form_expand.specs.Listing.{single};
+ghost use Rattle.form_expand.specs.Listing.{limited, single};
 ghost use Rattle.form_expand.specs.Meanings.{bound_to, no_meanings};
 ghost use Rattle.form_expand.specs.Parts.{part_list};
-ghost use Rattle.form_flow.specs.Applied.{IsApplied};
+ghost use Rattle.form_expand.specs.Walks.{IsAlone};
+ghost use Rattle.form_flow.specs.Applied.{IsApplied, IsPut};
 ghost use Rattle.form_flow.specs.Parts.{ArePartsOf, IsPart};
 ghost use Rattle.form_flow.specs.Ready.{AreReady, IsReady, rewriting_of, rewritings_of};
-ghost use Rattle.form_flow.specs.Rests.{names_in, rest_in};
+ghost use Rattle.form_flow.specs.Rests.{cut_list, names_in, rest_in};
 ghost use Rattle.form_flow.specs.Rewriting.{Part as AsTrees, and_part as and_part_of, and_taken as and_taken_of, rest_of, rewritten as rewritten_of, right_with, untouched};
 
 use crate::between::{Inserted, all_bound, is_any_by_match, places, put_between, row_of};
 use crate::compiled::{CompiledPart, Group};
-use form_expand::{Part, Row, Standing, laws, whole_list};
+use form_base::Cause;
+use form_expand::{ExpandError, Part, Row, Standing, Whole, alone_times, laws, whole_list};
 use form_frac::Frac;
 use form_match::Bindings;
-use form_rewrite::{Taken, take_out};
+use form_rewrite::{Single, Take, Taken, take_out};
 use form_term::{Monomial, Term};
 use form_tree::Piece;
 use std::alloc::{AllocError, Global};
@@ -37,9 +40,11 @@ pub struct Remaining<'a> {
 /// What a statement makes of a term.
 #[derive(Drop)]
 pub enum Applied<'a> {
-    /// No part matched.
-    Unchanged(Monomial),
-    Put(Row<'a>),
+    /// One term: the same, where no part matched, or that to which what is left and what is put in come.
+    One(Monomial),
+    Nothing,
+    Refused(Cause),
+    Put(Box<Row<'a>>),
 }
 
 /// What a statement makes of a term.
@@ -58,6 +63,23 @@ pub fn rewritten<'a>(
     if let [part] = group.parts.as_slice() {
         return by_one(alloc, limit, part, nothing, item);
     }
+    by_several(alloc, limit, group, nothing, item)
+}
+
+/// What several parts make of a term.
+#[inline(never)]
+fn by_several<'a>(
+    alloc: Global,
+    limit: u64,
+    group: &'a Group<'a>,
+    nothing: &'a Standing,
+    item: Monomial,
+) -> Result<Applied<'a>, AllocError>
+    requires ready { AreReady limit group.now }
+    requires nothing { nothing.now ≡ no_meanings }
+    ensures { (ps : List AsTrees) → ArePartsOf (rewritings_of group.now) ps →
+        IfOk result (λ applied. IsApplied item (rewritten_of limit ps item) applied) }
+{
     let Monomial { coefficient, term } = item;
     let rest = rest(alloc, limit, group, nothing, term)?;
     put_together(alloc, coefficient, rest)
@@ -84,10 +106,10 @@ fn put_together<'a>(
         term: left,
     };
     if !has_matched {
-        return Ok(Applied::Unchanged(left));
+        return Ok(Applied::One(left));
     }
     let row = row_of(alloc, limit, left, between, behind)?;
-    Ok(Applied::Put(row))
+    Ok(Applied::Put(Box::new(alloc, row)?))
 }
 
 /// What a part that has no `also` beside it makes of a term.
@@ -104,26 +126,41 @@ fn by_one<'a>(
         IfOk result (λ applied. IsApplied item (rewritten_of limit (p ∷ []) item) applied) }
 {
     let option = part.rewriting.option;
-    let Some(taken) = take_out(alloc, &item.term, &[], &part.pattern, option)? else {
-        return Ok(Applied::Unchanged(item));
-    };
     let right = part.rewriting.right.as_slice();
     let Monomial { coefficient, term } = item;
-    match taken.into_single() {
-        Ok(single) => {
+    match take_out(alloc, term, &[], &part.pattern, option)? {
+        Take::Untaken(term) => Ok(Applied::One(Monomial { coefficient, term })),
+        Take::Single(single) => {
+            let Single { left, bindings } = single;
             let left = Monomial {
                 coefficient,
-                term: single.left,
+                term: left,
             };
-            let row = with_right_side(alloc, limit, right, nothing, left, single.bindings)?;
-            Ok(Applied::Put(row))
+            times_right_side(alloc, limit, right, nothing, left, bindings)
         }
-        Err(taken) => {
-            let before = untaken(alloc, limit, term);
-            let rest = and_taken(alloc, right, nothing, before, taken)?;
-            put_together(alloc, coefficient, rest)
-        }
+        Take::Several(taken) => put_taken(alloc, limit, right, nothing, coefficient, taken),
     }
+}
+
+/// What comes of a term by all that was taken from it.
+#[inline(never)]
+fn put_taken<'a>(
+    alloc: Global,
+    limit: u64,
+    right: &'a [Piece],
+    nothing: &'a Standing,
+    coefficient: Frac,
+    taken: Taken,
+) -> Result<Applied<'a>, AllocError>
+    requires { nothing.now ≡ no_meanings }
+    ensures { (p : AsTrees) (m : Item) → right.now ≡ pieces_of_sum p.right → m.coefficient ≡ coefficient →
+        and_taken_of limit p.right (untouched m.term) (Some taken) ≡ and_part_of limit (untouched m.term) p →
+        IfOk result (λ applied. IsApplied m (rewritten_of limit (p ∷ []) m) applied) }
+{
+    let between = Vec::new(alloc);
+    let behind = Vec::new(alloc);
+    let rest = and_taken(alloc, limit, right, nothing, between, behind, taken)?;
+    put_together(alloc, coefficient, rest)
 }
 
 /// A term before any part took from it.
@@ -141,22 +178,59 @@ fn untaken<'a>(alloc: Global, limit: u64, term: Term) -> Remaining<'a>
 }
 
 /// A term, and the right side by the bindings of a match behind it.
-fn with_right_side<'a>(
+fn times_right_side<'a>(
     alloc: Global,
     limit: u64,
     right: &'a [Piece],
     nothing: &'a Standing,
     left: Monomial,
     bindings: Bindings,
-) -> Result<Row<'a>, AllocError>
+) -> Result<Applied<'a>, AllocError>
     requires { nothing.now ≡ no_meanings }
     ensures { (s : Sum) → right.now ≡ pieces_of_sum s →
-        IfOk result (λ made. made ≡ row limit (single left ∷ right_with limit s bindings ∷ [])) }
+        IfOk result (λ applied. IsPut (row limit (single left ∷ right_with limit s bindings ∷ [])) applied) }
 {
-    let names = bound(alloc, bindings);
-    let list = right_side(alloc, limit, right, nothing, &names)?;
+    laws::lists_of_trees();
+    let Some(names) = bound(alloc, bindings) else {
+        return pair(alloc, limit, left, Part::Tree(right, nothing));
+    };
+    let whole = whole_list(alloc, right, limit, &names)?;
+    if whole.is_alone(limit) {
+        return times_alone(alloc, limit, left, &whole);
+    }
+    pair(alloc, limit, left, Part::List(whole))
+}
+
+/// A term times the only one of a list.
+fn times_alone<'a>(
+    alloc: Global,
+    limit: u64,
+    left: Monomial,
+    list: &Whole,
+) -> Result<Applied<'a>, AllocError>
+    requires { IsAlone limit list.now }
+    ensures { IfOk result (λ applied. IsPut (row limit (single left ∷ limited limit (listing list.now) ∷ [])) applied) }
+{
+    match alone_times(alloc, left, list) {
+        Ok(Some(item)) => Ok(Applied::One(item)),
+        Ok(None) => Ok(Applied::Nothing),
+        Err(ExpandError::Refused(cause)) => Ok(Applied::Refused(cause)),
+        Err(ExpandError::Memory) => Err(AllocError),
+    }
+}
+
+/// The row of a term and a list behind it.
+#[inline(never)]
+fn pair<'a>(
+    alloc: Global,
+    limit: u64,
+    left: Monomial,
+    list: Part<'a>,
+) -> Result<Applied<'a>, AllocError>
+    ensures { IfOk result (λ applied. IsPut (row limit (single left ∷ part_list limit list.entry ∷ [])) applied) }
+{
     let row = Row::pair(alloc, limit, left, list)?;
-    Ok(row)
+    Ok(Applied::Put(Box::new(alloc, row)?))
 }
 
 /// What is left of a term once all parts took from it.
@@ -195,32 +269,46 @@ fn and_part<'a>(
 {
     let option = part.rewriting.option;
     let cuts = places(alloc, &rest.between)?;
-    let Some(taken) = take_out(alloc, &rest.left, &cuts, &part.pattern, option)? else {
-        return Ok(rest);
-    };
-    and_taken(alloc, part.rewriting.right.as_slice(), nothing, rest, taken)
+    let right = part.rewriting.right.as_slice();
+    let Remaining {
+        limit,
+        left,
+        between,
+        behind,
+        has_matched,
+    } = rest;
+    match take_out(alloc, left, &cuts, &part.pattern, option)? {
+        Take::Untaken(left) => Ok(Remaining {
+            limit,
+            left,
+            between,
+            behind,
+            has_matched,
+        }),
+        Take::Single(single) => {
+            let taken = single.into_taken(alloc)?;
+            and_taken(alloc, limit, right, nothing, between, behind, taken)
+        }
+        Take::Several(taken) => and_taken(alloc, limit, right, nothing, between, behind, taken),
+    }
 }
 
-/// What is left, with the right side behind it for each match.
+/// What is left, with the right side for each match: in between where the match took a stretch of the word, else behind
+/// other lists.
 fn and_taken<'a>(
     alloc: Global,
+    limit: u64,
     right: &'a [Piece],
     nothing: &'a Standing,
-    rest: Remaining<'a>,
+    between: Vec<Inserted<'a>>,
+    behind: Vec<Part<'a>>,
     taken: Taken,
 ) -> Result<Remaining<'a>, AllocError>
     requires { nothing.now ≡ no_meanings }
-    ensures rest { (s : Sum) → right.now ≡ pieces_of_sum s →
-        IfOk result (λ after. rest_in after ≡ and_taken_of rest.entry.limit s (rest_in rest.entry) (Some taken)) }
-    ensures limit { IfOk result (λ after. after.limit ≡ rest.entry.limit) }
+    ensures rest { (s : Sum) → right.now ≡ pieces_of_sum s → IfOk result (λ after.
+        rest_in after ≡ and_taken_of limit s (record { left = taken.left; cuts = map (cut_list limit) between.entry.items; behind = map (part_list limit) behind.entry.items; has_matched = false }) (Some taken)) }
+    ensures limit { IfOk result (λ after. after.limit ≡ limit) }
 {
-    let Remaining {
-        limit,
-        left: _,
-        between,
-        behind,
-        has_matched: _,
-    } = rest;
     let Taken {
         left,
         cuts,
@@ -228,8 +316,9 @@ fn and_taken<'a>(
         times,
     } = taken;
     let cuts = cuts.as_slice();
+    let matches = matches.into_vec();
     if is_any_by_match(cuts) {
-        let names = all_bound(alloc, matches.into_vec())?;
+        let names = all_bound(alloc, matches)?;
         let between = put_between(alloc, limit, right, nothing, &names, cuts, between)?;
         return Ok(Remaining {
             limit,
@@ -240,7 +329,6 @@ fn and_taken<'a>(
         });
     }
     let between = put_between(alloc, limit, right, nothing, &[], cuts, between)?;
-    let matches = matches.into_vec();
     let behind = put_all(alloc, limit, right, nothing, matches, times, behind)?;
     Ok(Remaining {
         limit,

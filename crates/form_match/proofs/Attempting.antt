@@ -22,9 +22,9 @@ use Rattle.form_match.specs.declared.frames.Frame.{Frame}
 use Rattle.form_match.specs.declared.frames.Frame.TheVariants as frames
 use Rattle.form_match.specs.declared.frames.Span.{Span}
 use Rattle.form_match.specs.declared.frames.Step.{Step}
-use Rattle.form_match.specs.declared.search.Attempt.{Attempt}
-use Rattle.form_match.specs.declared.search.Attempt.TheVariants as attempts
-use Rattle.form_match.specs.declared.search.Move.{Move}
+use Rattle.form_match.specs.declared.frames.Attempt.{Attempt}
+use Rattle.form_match.specs.declared.frames.Attempt.TheVariants as attempts
+use Rattle.form_match.specs.declared.frames.Move.{Move}
 use Rattle.form_match.specs.declared.uses.Use.{Use}
 use Rattle.form_match.specs.declared.uses.Use.TheVariants as uses
 use Rattle.form_match.specs.Attempts.{IfOne, IfPlain, IsAttempt, StandBehind, any_asked, begins_sum, index_alone, step_of, vector_alone}

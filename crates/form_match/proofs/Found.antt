@@ -1,5 +1,5 @@
 -- The first match, by what the search finds.
-use Rattle.std.proofs.Common.{◌≡◌, ℕ, Bool, true, false, List, [], Option, Some, None, sym, ap, subst, ◌∙◌}
+use Rattle.std.proofs.Common.{◌≡◌, ℕ, Bool, true, List, [], Option, Some, None, sym, ap, subst, ◌∙◌}
 use Rattle.std.specs.Prelude.{IfSome}
 use Rattle.std.specs.List.{list_all}
 use Rattle.form_term.specs.declared.piece.Piece.{Piece}
@@ -9,12 +9,10 @@ use Rattle.form_tree.specs.declared.pattern.PatternPiece.{PatternPiece}
 use Rattle.form_tree.specs.Pattern.{Factors, pieces_of_factors}
 use Rattle.form_match.specs.declared.matching.Match.{Match}
 use Rattle.form_match.specs.declared.uses.Use.{Use}
-use Rattle.form_match.specs.Attempts.{Finds}
 use Rattle.form_match.specs.Fits.{Fits}
 use Rattle.form_match.specs.Matching.{first_of, outer}
 use Rattle.form_match.specs.States.{first_found, reach, start}
 use Rattle.form_match.specs.Symbols.{is_plain, uses_from}
-use Rattle.form_match.specs.Values.{Binding}
 use Rattle.form_match.proofs.Heads.{first_reached}
 use Rattle.form_match.proofs.Held.{found_fits}
 use Rattle.form_match.proofs.Plains.{first_plain, match_by}
@@ -28,26 +26,12 @@ module _ (t : Term) (cuts : List ℕ) (is_exact : Bool) where
         ∙ ap (λ (l : List PatternPiece). first_found (reach table l (start (outer t cuts is_exact)))) is
         ∙ first_reached table fs t cuts is_exact
 
-    pub found_first : (b : Bool) (us : List Use) (bs : List Binding) (m : Match) → b ≡ true → Finds b (first_found (reach tried ps (start (outer t cuts is_exact)))) us bs
-        → m ≡ record { takes = us; bindings = bs } → Some m ≡ first_of table fs t cuts is_exact
-    found_first true us bs m told found e = ap Some e ∙ sym found ∙ reached_is
-    found_first false us bs m told found e = cc
-
-    pub none_first : (b : Bool) (us : List Use) (bs : List Binding) → b ≡ false → Finds b (first_found (reach tried ps (start (outer t cuts is_exact)))) us bs → None ≡ first_of table fs t cuts is_exact
-    none_first false us bs told found = sym found ∙ reached_is
-    none_first true us bs told found = cc
-
     -- a pattern of powers of symbols
     pub powers_first : (powers : List Power) (o : Option (List Use)) → IsTerm t → list_all is_plain ps ≡ true → powers ≡ t.symbols → o ≡ uses_from is_exact powers [] ps
         → match_by o ≡ first_of table fs t cuts is_exact
     powers_first powers o lawful all e found =
         ap match_by (found ∙ ap (λ (l : List Power). uses_from is_exact l [] ps) e ∙ ap (uses_from is_exact t.symbols []) is)
         ∙ sym (first_plain table fs t cuts is_exact lawful.rising (subst (λ (l : List PatternPiece). list_all is_plain l ≡ true) is all))
-
-  pub found_fitting : (table : List (Option (List Piece))) (ps : List PatternPiece) (b : Bool) (us : List Use) (bs : List Binding) (m : Match) → IsTerm t → b ≡ true
-      → Finds b (first_found (reach table ps (start (outer t cuts is_exact)))) us bs → m ≡ record { takes = us; bindings = bs } → Fits m.takes t
-  found_fitting table ps true us bs m lawful told found e = subst (λ (n : Match). Fits n.takes t) (sym e) (found_fits t lawful table ps cuts is_exact (record { takes = us; bindings = bs }) found)
-  found_fitting table ps false us bs m lawful told found e = cc
 
   -- what is found straight on
   pub found_straight : (table : List (Option (List Piece))) (ps : List PatternPiece) (found : Option Match) → IsTerm t → found ≡ first_found (reach table ps (start (outer t cuts is_exact)))

@@ -1,5 +1,6 @@
 pub mod Absent
 pub mod Attempting
+pub mod Backwards
 pub mod Cutting
 pub mod Direct
 pub mod Exponents

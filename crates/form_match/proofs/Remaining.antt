@@ -10,7 +10,7 @@ use Rattle.std.specs.declared.cmp.Ordering.TheVariants.{Less}
 use Rattle.std.specs.Option.{unwrap_or}
 use Rattle.std.proofs.lemmas.Bool.{ltb-true, ne_eqb}
 use Rattle.std.proofs.lemmas.Option.{slice_get-get_or}
-use Rattle.std.proofs.lemmas.List.{drop_more, drop_all}
+use Rattle.std.proofs.lemmas.List.{drop_more, drop_all, length-append, length-drop, length-take, nil_from_length}
 use Rattle.std.proofs.lemmas.List.Sums.{sum_by-cons, sum-map}
 use Rattle.std.proofs.lemmas.List.Elements.{All-append, All-take, All-drop, All-head, All-tail, All-weaker, filter_passes, All-from_recursion, recursion_from_All}
 use Rattle.form_term.specs.declared.power.Power.{Power}
@@ -18,14 +18,16 @@ use Rattle.form_term.specs.declared.power.DotPower.{DotPower}
 use Rattle.form_term.specs.declared.index.Component.{Component}
 use Rattle.form_term.specs.declared.index.Delta.{Delta}
 use Rattle.form_term.specs.Pieces.{deepest}
-use Rattle.form_term.specs.Term.{Term, Call, IsTerm, IsCall, AreFactors, RiseFrom, RisesBy, exponent_in, exponent_of, pair_order, index_order, component_order, delta_order, call_order, size, depth, size_of_call, depth_of_calls, largest_exponent}
+use Rattle.form_term.specs.Term.{Term, Others, Call, IsTerm, IsCall, AreFactors, RiseFrom, RisesBy, exponent_in, exponent_of, pair_order, index_order, component_order, delta_order, call_order, size, depth, size_of_call, depth_of_calls, largest_exponent}
 use Rattle.form_term.specs.PowerLaws.{rise_lower}
+use Rattle.form_term.specs.Terms.{term}
 use Rattle.form_match.specs.declared.uses.Use.{Use}
 use Rattle.form_match.specs.declared.uses.Use.TheVariants as uses
 use Rattle.form_match.specs.Fits.{Fits, FitsExponent, FitsUse}
 use Rattle.form_match.specs.Left.{left_of, taken, symbol_taken, dot_taken, takes_component, takes_delta, takes_function, untaken, powers_left, dots_left, word_left, without_stretch}
 use Rattle.form_match.specs.Matching.{fits}
-use Rattle.form_match.specs.Taken.{FitsDots, FitsSymbols, first_part, symbol_part, dot_part, present_dot, present_power, unless}
+use Rattle.form_match.specs.Taken.{FitsDots, FitsSymbols, IsOfFunctions, first_part, rest_left, symbol_part, dot_part, present_dot, present_power, unless}
+use Rattle.form_match.proofs.Backwards.{at_back, exchanged, one_back, seen, standing}
 use Rattle.form_match.proofs.Portions.{apart_is, symbol_first, dot_first}
 
 -- ---- element by element
@@ -41,24 +43,33 @@ filter_first {A} test x xs = by (test x)
 put_step : {A : Type 0} (left here rest next whole : List A) → left ++ next ≡ whole → here ++ rest ≡ next → (left ++ here) ++ rest ≡ whole
 put_step left here rest next whole before e = append_assoc left here rest ∙ ap (λ (l : List _). left ++ l) e ∙ before
 
-pub powers_begin : (us : List Use) (ps left : List Power) → left ≡ [] → left ++ powers_left us ps ≡ powers_left us ps
-powers_begin us ps left e = ap (λ (l : List Power). l ++ powers_left us ps) e
-
 abbrev lowered : List Use → Power → Power
 lowered us p = record { symbol = p.symbol; exponent = p.exponent -ℤ taken (symbol_taken p.symbol) us }
 
-pub powers_step : (us : List Use) (ps left : List Power) (i : ℕ) (p made : Power) → i < length ps → p ≡ get_or ps i p
-    → made ≡ record { symbol = p.symbol; exponent = p.exponent -ℤ taken (symbol_taken p.symbol) us }
-    → left ++ powers_left us (drop i ps) ≡ powers_left us ps
-    → (left ++ present_power made) ++ powers_left us (drop (i + 1) ps) ≡ powers_left us ps
-powers_step us ps left i p made within is low before =
-    put_step left (present_power made) (powers_left us (drop (i + 1) ps)) (powers_left us (drop i ps)) (powers_left us ps) before
-    (ap (λ (m : Power). present_power m ++ powers_left us (drop (i + 1) ps)) low
-    ∙ filter_first (λ (q : Power). nat_lt 0 (nat_abs q.exponent)) (lowered us p) (map (lowered us) (drop (i + 1) ps))
-    ∙ ap (powers_left us) (ap (λ (q : Power). q ∷ drop (i + 1) ps) is ∙ sym (drop_more ps i p within)))
+-- what a power leaves, and those behind it
+powers_here : (us : List Use) (ps : List Power) (i : ℕ) (p : Power) → i < length ps → p ≡ get_or ps i p
+    → present_power (lowered us p) ++ powers_left us (drop (i + 1) ps) ≡ powers_left us (drop i ps)
+powers_here us ps i p within is =
+    filter_first (λ (q : Power). nat_lt 0 (nat_abs q.exponent)) (lowered us p) (map (lowered us) (drop (i + 1) ps))
+    ∙ ap (powers_left us) (ap (λ (q : Power). q ∷ drop (i + 1) ps) is ∙ sym (drop_more ps i p within))
 
-pub powers_end : (us : List Use) (ps left : List Power) (i : ℕ) → length ps ≤ i → left ++ powers_left us (drop i ps) ≡ powers_left us ps → left ≡ powers_left us ps
-powers_end us ps left i past before = sym (append-nil left) ∙ ap (λ (l : List Power). left ++ powers_left us l) (sym (drop_all i ps past)) ∙ before
+-- powers are gone through from the last one, each lowered in its place
+pub powers_begin : (us : List Use) (ps : List Power) (m : ℕ) → m ≡ length ps → ps ≡ take m ps ++ powers_left us (drop m ps)
+powers_begin us ps m all =
+    at_back ps m all ∙ ap (λ (l : List Power). take m ps ++ powers_left us l) (sym (drop_all m ps (omega (arith, all))))
+
+pub powers_back : (us : List Use) (ps left new : List Power) (m k : ℕ) (p made : Power) → m ≡ k + 1 → k < length ps → left ≡ take m ps ++ powers_left us (drop m ps)
+    → p ≡ get_or left k p → made ≡ record { symbol = p.symbol; exponent = p.exponent -ℤ taken (symbol_taken p.symbol) us }
+    → new ≡ take k left ++ (present_power made ++ drop (k + 1) left)
+    → new ≡ take k ps ++ powers_left us (drop k ps)
+powers_back us ps left new m k p made one within before is low put =
+    let rest = powers_left us (drop m ps) in
+    let there : p ≡ get_or ps k p = is ∙ seen ps left rest m k one within before p in
+    put
+    ∙ exchanged ps left rest m k one within before (present_power made) p
+    ∙ ap (λ (q : Power). take k ps ++ (present_power q ++ rest)) low
+    ∙ ap (λ (n : ℕ). take k ps ++ (present_power (lowered us p) ++ powers_left us (drop n ps))) one
+    ∙ ap (λ (l : List Power). take k ps ++ l) (powers_here us ps k p within there)
 
 -- those of dot products from a place on
 abbrev pub dots_from : ℕ → List Use → List DotPower → List DotPower
@@ -89,7 +100,7 @@ abbrev pub untaken_from : {A : Type 0} → ℕ → (ℕ → Use → Bool) → Li
 untaken_from n takes us xs = map (λ e. e.1) (filter (λ e. not (list_any (takes e.0) us)) (enumerate_from n xs))
 
 module _ {A : Type 0} (takes : ℕ → Use → Bool) (us : List Use) where
-  untaken_more : (n : ℕ) (x : A) (xs : List A) → untaken_from n takes us (x ∷ xs) ≡ unless (list_any (takes n) us) x ++ untaken_from (n + 1) takes us xs
+  pub untaken_more : (n : ℕ) (x : A) (xs : List A) → untaken_from n takes us (x ∷ xs) ≡ unless (list_any (takes n) us) x ++ untaken_from (n + 1) takes us xs
   untaken_more n x xs = by (list_any (takes n) us) (filter (λ (e : ℕ × A). not (list_any (takes e.0) us)) (enumerate_from (n + 1) xs))
     where
       by : (b : Bool) (rest : List (ℕ × A)) → map (λ e. e.1) (cond (not b) ((n, x) ∷ rest) rest) ≡ unless b x ++ map (λ e. e.1) rest
@@ -104,6 +115,39 @@ module _ {A : Type 0} (takes : ℕ → Use → Bool) (us : List Use) where
       (ap (λ (t : Bool). unless t x ++ untaken_from (n + 1) takes us (drop (i + 1) xs)) test
       ∙ sym (untaken_more n x (drop (i + 1) xs))
       ∙ ap (untaken_from n takes us) (ap (λ (q : A). q ∷ drop (i + 1) xs) is ∙ sym (drop_more xs i x within)))
+
+  -- they are gone through from the last one, and those that are taken go
+  pub untaken_begin : (xs : List A) (m : ℕ) → m ≡ length xs → xs ≡ take m xs ++ untaken_from m takes us (drop m xs)
+  untaken_begin xs m all =
+      at_back xs m all ∙ ap (λ (l : List A). take m xs ++ untaken_from m takes us l) (sym (drop_all m xs (omega (arith, all))))
+
+  untaken_here : (xs : List A) (k : ℕ) (x : A) (b : Bool) → k < length xs → x ≡ get_or xs k x → b ≡ list_any (takes k) us
+      → unless b x ++ untaken_from (k + 1) takes us (drop (k + 1) xs) ≡ untaken_from k takes us (drop k xs)
+  untaken_here xs k x b within is test =
+      ap (λ (t : Bool). unless t x ++ untaken_from (k + 1) takes us (drop (k + 1) xs)) test
+      ∙ sym (untaken_more k x (drop (k + 1) xs))
+      ∙ ap (untaken_from k takes us) (ap (λ (q : A). q ∷ drop (k + 1) xs) is ∙ sym (drop_more xs k x within))
+
+  module _ (xs left : List A) (m k : ℕ) (one : m ≡ k + 1) (within : k < length xs) (before : left ≡ take m xs ++ untaken_from m takes us (drop m xs)) where
+    rest_is : untaken_from m takes us (drop m xs) ≡ untaken_from (k + 1) takes us (drop (k + 1) xs)
+    rest_is = ap (λ (n : ℕ). untaken_from n takes us (drop n xs)) one
+
+    pub taken_back : (new : List A) (x : A) → x ≡ get_or left k x → true ≡ list_any (takes k) us → new ≡ take k left ++ drop (k + 1) left
+        → new ≡ take k xs ++ untaken_from k takes us (drop k xs)
+    taken_back new x is test out =
+        let rest = untaken_from m takes us (drop m xs) in
+        out
+        ∙ exchanged xs left rest m k one within before [] x
+        ∙ ap (λ (l : List A). take k xs ++ l) (rest_is ∙ untaken_here xs k x true within (is ∙ seen xs left rest m k one within before x) test)
+
+    pub kept_back : false ≡ list_any (takes k) us → left ≡ take k xs ++ untaken_from k takes us (drop k xs)
+    kept_back test =
+        let rest = untaken_from m takes us (drop m xs) in
+        let there = standing xs k within in
+        one_back xs left rest m k one within before there.0
+        ∙ ap (λ (y : A). take k xs ++ y ∷ rest) (sym there.1)
+        ∙ ap (λ (l : List A). take k xs ++ there.0 ∷ l) rest_is
+        ∙ ap (λ (l : List A). take k xs ++ l) (untaken_here xs k there.0 false within there.1 test)
 
   pub untaken_end : (xs left : List A) (n i : ℕ) → length xs ≤ i → left ++ untaken_from n takes us (drop i xs) ≡ untaken takes us xs → left ≡ untaken takes us xs
   untaken_end xs left n i past before = sym (append-nil left) ∙ ap (λ (l : List A). left ++ untaken_from n takes us l) (sym (drop_all i xs past)) ∙ before
@@ -419,6 +463,32 @@ left_lawful t us h f = record {
   small = omega (arith, no_larger t us, h.small);
   shallow = omega (arith, no_deeper t us, h.shallow);
 }
+
+-- nothing is left of no word
+no_word_left : (us : List Use) → word_left us [] ≡ []
+no_word_left us =
+    nil_from_length (word_left us [])
+    (word_keeps (λ (w : List Call). length w ≡ 0) (λ start n w none. omega (arith, none, length-append (take start w) (drop (start + n) w), length-take start w, length-drop (start + n) w)) us [] refl)
+
+-- where there are commuting functions alone, the rest is left as it is
+pub rest_stays : (us : List Use) (o : Others) → IsOfFunctions o → o ≡ rest_left us o
+rest_stays us o none = λ i. record {
+  is_imaginary = o.is_imaginary;
+  dots = (none.no_dots ∙ ap (dots_left us) (sym none.no_dots)) i;
+  components = (none.no_components ∙ ap (untaken takes_component us) (sym none.no_components)) i;
+  deltas = (none.no_deltas ∙ ap (untaken takes_delta us) (sym none.no_deltas)) i;
+  functions = o.functions;
+  word = (none.no_word ∙ sym (no_word_left us) ∙ ap (word_left us) (sym none.no_word)) i;
+}
+
+-- what is left, first of the functions and then of the rest
+pub left_of_all : (t : Term) (us : List Use) (ps : List Power) (o within left : Others) (fs : List Call) → t ≡ term ps o → within ≡ o → fs ≡ untaken takes_function us within.functions
+    → left ≡ rest_left us (record within { functions = fs }) → term (powers_left us ps) left ≡ left_of t us
+unfolding left_of
+left_of_all t us ps o within left fs is same functions rest =
+    ap (term (powers_left us ps)) (rest ∙ ap (λ (gs : List Call). rest_left us (record within { functions = gs })) functions
+    ∙ ap (λ (p : Others). rest_left us (record p { functions = untaken takes_function us p.functions })) same)
+    ∙ ap (λ (u : Term). left_of u us) (sym is)
 
 -- what is left, by its parts
 pub left_is : (t : Term) (us : List Use) (ps : List Power) (b : Bool) (ds : List DotPower) (cs : List Component) (es : List Delta) (fs w : List Call)

@@ -8,9 +8,9 @@ use Rattle.form_tree.specs.declared.pattern.PatternPiece.{PatternPiece}
 use Rattle.form_match.specs.declared.frames.Frame.{Frame}
 use Rattle.form_match.specs.declared.frames.Frame.TheVariants as frames
 use Rattle.form_match.specs.declared.frames.Step.{Step}
-use Rattle.form_match.specs.declared.search.Attempt.{Attempt}
-use Rattle.form_match.specs.declared.search.Attempt.TheVariants as attempts
-use Rattle.form_match.specs.declared.search.Move.{Move}
+use Rattle.form_match.specs.declared.frames.Attempt.{Attempt}
+use Rattle.form_match.specs.declared.frames.Attempt.TheVariants as attempts
+use Rattle.form_match.specs.declared.frames.Move.{Move}
 use Rattle.form_match.specs.declared.uses.Use.{Use}
 use Rattle.form_match.specs.Attempts.{AreKept, Finds, IsAttempt, IsBack, StandBehind, step_of}
 use Rattle.form_match.specs.Candidates.{from, pending}

@@ -11,7 +11,7 @@ use Rattle.form_tree.specs.declared.pattern.PatternPiece.TheVariants as pieces
 use Rattle.form_match.specs.declared.frames.Frame.TheVariants as frames
 use Rattle.form_match.specs.declared.frames.Span.{Span}
 use Rattle.form_match.specs.declared.frames.Step.{Step}
-use Rattle.form_match.specs.declared.search.Attempt.TheVariants as attempts
+use Rattle.form_match.specs.declared.frames.Attempt.TheVariants as attempts
 use Rattle.form_match.specs.Attempts.{IsAttempt, IsSomewhere, StandBehind, any_asked}
 use Rattle.form_match.specs.Frames.{around_at, frame_at, pieces_at, uses_at}
 use Rattle.form_match.specs.Learning.{Tells, learnt_of}

@@ -13,9 +13,9 @@ use Rattle.form_tree.specs.declared.pattern.Sort.{Sort}
 use Rattle.form_tree.specs.declared.pattern.Sort.TheVariants as sorts
 use Rattle.form_match.specs.declared.frames.Step.{Step}
 use Rattle.form_match.specs.declared.matching.Match.{Match}
-use Rattle.form_match.specs.declared.search.Attempt.{Attempt}
-use Rattle.form_match.specs.declared.search.Attempt.TheVariants as attempts
-use Rattle.form_match.specs.declared.search.Move.{Move}
+use Rattle.form_match.specs.declared.frames.Attempt.{Attempt}
+use Rattle.form_match.specs.declared.frames.Attempt.TheVariants as attempts
+use Rattle.form_match.specs.declared.frames.Move.{Move}
 use Rattle.form_match.specs.declared.uses.Use.{Use}
 use Rattle.form_match.specs.Candidates.{from}
 use Rattle.form_match.specs.Frames.{AreOpen, bound_at, uses_at}

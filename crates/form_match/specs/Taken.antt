@@ -6,7 +6,8 @@ use Rattle.form_term.specs.declared.power.DotPower.{DotPower}
 use Rattle.form_match.specs.declared.uses.Use.{Use}
 use Rattle.form_match.specs.declared.uses.Use.TheVariants as uses
 use Rattle.form_match.specs.Fits.{FitsExponent}
-use Rattle.form_match.specs.Left.{symbol_taken, dot_taken, taken}
+use Rattle.form_term.specs.Term.{Others}
+use Rattle.form_match.specs.Left.{symbol_taken, dot_taken, taken, dots_left, takes_component, takes_delta, untaken, word_left}
 
 -- so much of a symbol, or of the dot product at a place, where a use is one of it
 abbrev pub symbol_part : ℕ → Use → Option ℤ
@@ -21,6 +22,11 @@ dot_part m _ = None
 abbrev pub is_of_symbol : Use → Bool
 is_of_symbol (uses.Symbol t k) = true
 is_of_symbol _ = false
+
+-- whether a use is of a commuting function
+abbrev pub is_of_function : Use → Bool
+is_of_function (uses.Function n) = true
+is_of_function _ = false
 
 -- that of the first use
 abbrev pub first_part : (Use → Option ℤ) → List Use → ℤ
@@ -45,3 +51,21 @@ FitsSymbols us ps = (i : ℕ) (p : Power) → i < length ps → p ≡ slice_inde
 
 abbrev pub FitsDots : List Use → List DotPower → Type 0
 FitsDots us ds = (i : ℕ) (d : DotPower) → i < length ds → d ≡ slice_index_or ds i d → FitsExponent d.exponent (taken (dot_taken i) us)
+
+-- what is left of other factors, where nothing is taken of the commuting functions
+abbrev pub rest_left : List Use → Others → Others
+rest_left us o = record {
+  is_imaginary = o.is_imaginary;
+  dots = dots_left us o.dots;
+  components = untaken takes_component us o.components;
+  deltas = untaken takes_delta us o.deltas;
+  functions = o.functions;
+  word = word_left us o.word;
+}
+
+-- no other factors than commuting functions and `i_`
+pub record IsOfFunctions (o : Others) : Type 0 where
+  pub no_dots : o.dots ≡ []
+  pub no_components : o.components ≡ []
+  pub no_deltas : o.deltas ≡ []
+  pub no_word : o.word ≡ []

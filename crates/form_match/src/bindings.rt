@@ -3,6 +3,7 @@ ghost use Rattle.form_term.specs.Term.{is_nil};
 ghost use Rattle.form_match.specs.Entries.{IsEntry, binding_in};
 ghost use Rattle.form_match.specs.Values.{IsValueOf, is_same_wildcard, value_of};
 
+use crate::choices::short;
 use crate::values::is_same;
 use form_base::Id;
 use form_term::Piece;
@@ -19,12 +20,15 @@ pub enum Wildcard {
     Field(u32),
 }
 
+/// For how many pieces room is made at first: the values of two symbols or numbers.
+const FIRST_ROOM: usize = 8;
+
 /// A wildcard, and where the pieces of its value stand.
 #[derive(Clone, Copy, Debug, PartialEq, Eq)]
 struct Entry {
     wildcard: Wildcard,
-    start: usize,
-    end: usize,
+    start: u32,
+    end: u32,
 }
 
 impl Default for Entry {
@@ -54,7 +58,7 @@ impl Entry {
 /// of arguments: of one for a symbol, an index or a vector, of any number for a field. That of a function is its piece.
 #[derive(Drop)]
 pub struct Bindings {
-    entries: SmallVec<Entry, 4>,
+    entries: SmallVec<Entry, 3>,
     pieces: Vec<Piece>,
 }
 
@@ -96,9 +100,11 @@ impl Bindings {
         ensures put { OnOk result (self.new ≡ self.old ++ binding wildcard value.now ∷ []) }
         ensures unchanged { OnErr result (self.new ≡ self.old) }
     {
-        let start = self.pieces.len();
-        self.pieces.extend_from_slice(value)?;
-        let end = self.pieces.len();
+        let from = self.pieces.len();
+        let start = short(from)?;
+        add(&mut self.pieces, value)?;
+        let to = self.pieces.len();
+        let end = short(to)?;
         let entry = Entry {
             wildcard,
             start,
@@ -161,13 +167,24 @@ impl Bindings {
     }
 }
 
+/// Puts a value last. The first one takes memory for more.
+fn add(pieces: &mut Vec<Piece>, value: &[Piece]) -> Result<(), AllocError>
+    ensures put { OnOk result (pieces.new.items ≡ pieces.old.items ++ value.now) }
+    ensures unchanged { OnErr result (pieces.new.items ≡ pieces.old.items) }
+{
+    if pieces.is_empty() {
+        pieces.reserve(value.len().max(FIRST_ROOM))?;
+    }
+    pieces.extend_from_slice(value)
+}
+
 /// Where the value that ends last ends.
 fn last_end(entries: &[Entry]) -> usize
     ensures { All (λ e. e.end ≤ result) entries.now }
 {
     let mut last: usize = 0;
     for entry in entries {
-        last = last.max(entry.end);
+        last = last.max(entry.end as usize);
     }
     last
 }
@@ -179,7 +196,7 @@ fn found<'a>(entries: &[Entry], pieces: &'a [Piece], wildcard: &Wildcard) -> Opt
 {
     for entry in entries {
         if entry.is_of(wildcard) {
-            return Some(&pieces[entry.start..entry.end]);
+            return Some(&pieces[entry.start as usize..entry.end as usize]);
         }
     }
     None

@@ -1,6 +1,7 @@
-//! Where the search stands: what is open, and the steps that it has made.
-ghost use Rattle.std.specs.Prelude.{◌≡◌, ◌+◌, ◌++◌, drop, not, option_map, option_to_list, IfOk, OnOk};
+//! Where the search stands: what is open, the steps that it has made, and what becomes of a candidate.
+ghost use Rattle.std.specs.Prelude.{◌≡◌, ◌+◌, ◌++◌, None, drop, not, option_map, option_to_list, IfOk, OnOk};
 ghost use Rattle.std.specs.List.{list_any};
+ghost use Rattle.form_match.specs.declared.frames.Attempt.TheVariants as attempts;
 ghost use Rattle.form_match.specs.declared.frames.Frame.TheVariants as frames;
 ghost use Rattle.form_match.specs.Frames.{around_at as around_in, bound_at as bound_in, frame_at as frame_in, ground_of, host_at as host_in, inner_of, pieces_at as pieces_in, step_at as step_in, use_of, uses_at as uses_in};
 ghost use Rattle.form_match.specs.Matching.{clashes};
@@ -61,6 +62,41 @@ pub struct Step {
     pub taken: Option<Taken>,
     /// The term that an argument is.
     pub inner: Option<Term>,
+}
+
+/// What became of a candidate.
+#[derive(Drop)]
+pub enum Attempt {
+    /// It leads on to this; the next one is by its number.
+    Made(usize, Move),
+    /// It fails; the next one.
+    Failed(usize),
+    /// There are no more.
+    Spent,
+}
+
+/// What a step makes of what is open.
+#[derive(Drop)]
+pub struct Move {
+    pub frame: Frame,
+    pub around: usize,
+    pub taken: Option<Taken>,
+    pub inner: Option<Term>,
+}
+
+/// A step that takes nothing, of the only candidate.
+pub fn alone(frame: Frame, around: usize) -> Attempt
+    ensures { result ≡ attempts.Made 1 (record { frame = frame; around = around; taken = None; inner = None }) }
+{
+    Attempt::Made(
+        1,
+        Move {
+            frame,
+            around,
+            taken: None,
+            inner: None,
+        },
+    )
 }
 
 /// The step after which there are so many.

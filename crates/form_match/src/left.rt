@@ -1,10 +1,11 @@
-ghost use Rattle.std.specs.Prelude.{◌≡◌, ◌++◌, ◌+◌, ◌<◌, ◌≤◌, ◌^◌, ℕ, ◌-ℤ◌, [], ◌∷◌, All, IsTrue, IfOk, OnOk, length, nat_abs, take, drop, slice_index_or};
+ghost use Rattle.std.specs.Prelude.{◌≡◌, ◌++◌, ◌+◌, ◌<◌, ◌≤◌, ◌^◌, ℕ, ◌-ℤ◌, [], ◌∷◌, All, IsTrue, IfOk, OnOk, length, nat_abs, nat_lt, take, drop, slice_index_or};
+ghost use Rattle.std.specs.Bool.{OnTrue};
 ghost use Rattle.std.specs.List.{list_any};
 ghost use Rattle.form_term.specs.Term.{exponent_in};
 ghost use Rattle.form_match.specs.Fits.{Fits, FitsExponent};
 ghost use Rattle.form_match.specs.Left.{left_of as left_of_term, dots_left as dots_left_of, powers_left as powers_left_of, symbol_taken as symbol_taken_by, dot_taken as dot_taken_by, taken, takes_component, takes_delta, takes_function, untaken, without_stretch as without_stretch_of, word_left as word_left_of};
 ghost use Rattle.form_match.specs.Matching.{are_apart};
-ghost use Rattle.form_match.specs.Taken.{FitsDots, FitsSymbols, is_of_symbol, present_dot, present_power, unless};
+ghost use Rattle.form_match.specs.Taken.{FitsDots, FitsSymbols, IsOfFunctions, is_of_function, is_of_symbol, present_dot, present_power, rest_left, unless};
 
 use crate::Use;
 use crate::taken::{
@@ -12,38 +13,74 @@ use crate::taken::{
 };
 use form_term::{Call, Component, Delta, DotPower, Others, Power, Term};
 use std::alloc::{AllocError, Global};
+use std::mem;
 
-/// What is left of a term once a match is taken out.
-pub fn left_of(alloc: Global, term: &Term, takes: &[Use]) -> Result<Term, AllocError>
-    requires { Fits takes.now term.now }
-    ensures { IfOk result (λ t. t ≡ left_of_term term.now takes.now) }
+/// What is left of a term once a match is taken out. Its powers and commuting functions stay in their memory.
+pub fn left_of(alloc: Global, term: Term, takes: &[Use]) -> Result<Term, AllocError>
+    requires { Fits takes.now term }
+    ensures { IfOk result (λ t. t ≡ left_of_term term takes.now) }
 {
-    let powers = powers_left(alloc, term.powers(), takes)?;
-    let others = Others {
-        is_imaginary: term.is_imaginary(),
-        dots: dots_left(alloc, term.dots(), takes)?,
-        components: components_left(alloc, term.components(), takes)?,
-        deltas: deltas_left(alloc, term.deltas(), takes)?,
-        functions: functions_left(alloc, term.functions(), takes)?,
-        word: word_left(alloc, term.word(), takes)?,
-    };
+    let (powers, others) = term.into_factors(alloc);
+    let powers = powers_left(powers, takes);
+    let mut others = others;
+    leave_functions(&mut others.functions, takes);
+    leave_rest(alloc, &mut others, takes)?;
     Term::from_factors(alloc, powers, others)
 }
 
-fn powers_left(alloc: Global, powers: &[Power], takes: &[Use]) -> Result<Vec<Power>, AllocError>
+/// Leaves what isn't taken of other factors, of which no commuting function is taken here.
+fn leave_rest(alloc: Global, others: &mut Others, takes: &[Use]) -> Result<(), AllocError>
     requires apart { IsTrue (are_apart takes.now) }
-    requires fits { FitsSymbols takes.now powers.now }
-    requires present { All (λ p. 0 < nat_abs p.exponent) powers.now }
-    ensures { IfOk result (λ left. left.items ≡ powers_left_of takes.now powers.now) }
+    requires fits { FitsDots takes.now others.old.dots }
+    ensures { OnOk result (others.new ≡ rest_left takes.now others.old) }
+{
+    if has_functions_alone(others) {
+        return Ok(());
+    }
+    leave_each(alloc, others, takes)
+}
+
+/// Whether there are no other factors than commuting functions and `i_`.
+fn has_functions_alone(others: &Others) -> bool
+    ensures { OnTrue result (IsOfFunctions others.now) }
+{
+    others.dots.is_empty()
+        && others.components.is_empty()
+        && others.deltas.is_empty()
+        && others.word.is_empty()
+}
+
+#[inline(never)]
+fn leave_each(alloc: Global, others: &mut Others, takes: &[Use]) -> Result<(), AllocError>
+    requires apart { IsTrue (are_apart takes.now) }
+    requires fits { FitsDots takes.now others.old.dots }
+    ensures { OnOk result (others.new ≡ rest_left takes.now others.old) }
+{
+    others.dots = dots_left(alloc, others.dots.as_slice(), takes)?;
+    others.components = components_left(alloc, others.components.as_slice(), takes)?;
+    others.deltas = deltas_left(alloc, others.deltas.as_slice(), takes)?;
+    let word = mem::replace(&mut others.word, Vec::new(alloc));
+    others.word = word_left(alloc, word, takes)?;
+    Ok(())
+}
+
+fn powers_left(powers: Vec<Power>, takes: &[Use]) -> Vec<Power>
+    requires apart { IsTrue (are_apart takes.now) }
+    requires fits { FitsSymbols takes.now powers.items }
+    requires present { All (λ p. 0 < nat_abs p.exponent) powers.items }
+    ensures { result.items ≡ powers_left_of takes.now powers.items }
 {
     if !takes_symbol(takes) {
-        return copied(alloc, powers);
+        return powers;
     }
-    let mut left = Vec::with_capacity(alloc, powers.len())?;
-    for power in powers {
-        put_power(&mut left, &lowered_power(power, takes))?;
+    let mut left = powers;
+    let mut place = left.len();
+    while place > 0 {
+        place -= 1;
+        let lowered = lowered_power(&left[place], takes);
+        put_power(&mut left, place, lowered);
     }
-    Ok(left)
+    left
 }
 
 /// Whether something is taken of a symbol.
@@ -62,14 +99,6 @@ fn is_of_symbol(one: &Use) -> bool
     }
 }
 
-fn copied(alloc: Global, powers: &[Power]) -> Result<Vec<Power>, AllocError>
-    ensures { IfOk result (λ copy. copy.items ≡ powers.now) }
-{
-    let mut copy = Vec::with_capacity(alloc, powers.len())?;
-    copy.extend_from_slice(powers)?;
-    Ok(copy)
-}
-
 /// A power once what is taken of it is gone.
 fn lowered_power(power: &Power, takes: &[Use]) -> Power
     requires apart { IsTrue (are_apart takes.now) }
@@ -86,14 +115,23 @@ fn lowered_power(power: &Power, takes: &[Use]) -> Power
     }
 }
 
-/// Puts a power last that isn't 1.
-fn put_power(left: &mut Vec<Power>, power: &Power) -> Result<(), AllocError>
-    ensures { OnOk result (left.new.items ≡ left.old.items ++ present_power power.now) }
+/// Puts a power at a place, where it isn't 1.
+fn put_power(left: &mut Vec<Power>, place: usize, power: Power)
+    requires { place < length left.old.items }
+    ensures { left.new.items ≡ take place left.old.items ++ (present_power power ++ drop (place + 1) left.old.items) }
 {
-    if power.exponent != 0 {
-        left.push(*power)?;
+    if is_present(&power) {
+        left[place] = power;
+    } else {
+        left.remove(place);
     }
-    Ok(())
+}
+
+/// Whether a power isn't 1.
+fn is_present(power: &Power) -> bool
+    ensures { result ≡ nat_lt 0 (nat_abs power.now.exponent) }
+{
+    power.exponent != 0
 }
 
 fn dots_left(alloc: Global, dots: &[DotPower], takes: &[Use]) -> Result<Vec<DotPower>, AllocError>
@@ -176,33 +214,42 @@ fn deltas_left(alloc: Global, deltas: &[Delta], takes: &[Use]) -> Result<Vec<Del
     Ok(left)
 }
 
-fn functions_left(alloc: Global, functions: &[Call], takes: &[Use]) -> Result<Vec<Call>, AllocError>
-    ensures { IfOk result (λ left. left.items ≡ untaken takes_function takes.now functions.now) }
+/// Leaves the functions that aren't taken.
+fn leave_functions(functions: &mut Vec<Call>, takes: &[Use])
+    ensures { functions.new.items ≡ untaken takes_function takes.now functions.old.items }
 {
-    let mut left = Vec::with_capacity(alloc, functions.len())?;
-    let mut place: usize = 0;
-    for call in functions {
-        keep_call(&mut left, call, is_function_taken(place, takes))?;
-        place += 1;
+    if !takes_functions(takes) {
+        return;
     }
-    Ok(left)
+    let mut place = functions.len();
+    while place > 0 {
+        place -= 1;
+        if is_function_taken(place, takes) {
+            functions.remove(place);
+        }
+    }
 }
 
-/// Puts a copy of a function last unless it is taken.
-fn keep_call(left: &mut Vec<Call>, call: &Call, is_taken: bool) -> Result<(), AllocError>
-    ensures { OnOk result (left.new.items ≡ left.old.items ++ unless is_taken call.now) }
+/// Whether commuting functions are taken.
+fn takes_functions(takes: &[Use]) -> bool
+    ensures { result ≡ list_any is_of_function takes.now }
 {
-    if !is_taken {
-        left.push(call.clone()?)?;
-    }
-    Ok(())
+    takes.iter().any(|one| is_of_function(one))
 }
 
-fn word_left(alloc: Global, word: &[Call], takes: &[Use]) -> Result<Vec<Call>, AllocError>
-    ensures { IfOk result (λ left. left.items ≡ word_left_of takes.now word.now) }
+fn is_of_function(one: &Use) -> bool
+    ensures { result ≡ is_of_function one.now }
 {
-    let mut left = Vec::with_capacity(alloc, word.len())?;
-    put_calls(&mut left, word)?;
+    match one {
+        Use::Function(_) => true,
+        _ => false,
+    }
+}
+
+fn word_left(alloc: Global, word: Vec<Call>, takes: &[Use]) -> Result<Vec<Call>, AllocError>
+    ensures { IfOk result (λ left. left.items ≡ word_left_of takes.now word.items) }
+{
+    let mut left = word;
     for one in takes {
         left = without_use(alloc, left, one)?;
     }

@@ -1,9 +1,11 @@
 //! Patterns against terms: the first match of a pattern, what its wildcards stand for, and what is left of the term.
 #![tactic(auto)]
 
+mod arguments;
 mod asking;
 mod bindings;
 mod choices;
+mod factors;
 mod frames;
 mod host;
 mod lacking;

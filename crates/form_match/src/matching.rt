@@ -67,33 +67,52 @@ pub fn first_of(
         is_exact,
         fixed: pattern.fixed(),
     };
-    let straight = straight_first(alloc, pattern, &outermost)?;
-    if let Some(found) = straight {
-        return Ok(found);
+    if pattern.is_straight() {
+        return straight_first(alloc, &outermost, pieces);
     }
+    searched(alloc, &outermost, pieces)
+}
+
+/// The first match of a pattern that may be tried straight on.
+#[inline(never)]
+fn straight_first(
+    alloc: Global,
+    outermost: &Ground,
+    pieces: &[PatternPiece],
+) -> Result<Option<Match>, AllocError>
+    requires { IsTerm outermost.now.term.now }
+    ensures { IfOk result (λ m.
+        m ≡ first_found (reach (table_of outermost.now.fixed.now) pieces.now (start (ground_of outermost.now)))) }
+{
+    let mut takes = Uses::new(alloc);
+    let mut bindings = Bindings::new(alloc);
+    let tried = straight_match(&mut takes, &mut bindings, outermost, pieces)?;
+    let Some(is_found) = tried else {
+        return searched(alloc, outermost, pieces);
+    };
+    if is_found {
+        return Ok(Some(Match { takes, bindings }));
+    }
+    Ok(None)
+}
+
+/// The first match, by the search.
+#[inline(never)]
+fn searched(
+    alloc: Global,
+    outermost: &Ground,
+    pieces: &[PatternPiece],
+) -> Result<Option<Match>, AllocError>
+    ensures { IfOk result (λ m.
+        m ≡ first_found (reach (table_of outermost.now.fixed.now) pieces.now (start (ground_of outermost.now)))) }
+{
     let mut search = Search::with_room(alloc, pieces.len())?;
-    let is_found = search.run(alloc, &outermost, pieces)?;
+    let is_found = search.run(alloc, outermost, pieces)?;
     if is_found {
         let found = search.into_match(alloc)?;
         return Ok(Some(found));
     }
     Ok(None)
-}
-
-/// The first match of a pattern that is tried straight on; none where it is another one.
-fn straight_first(
-    alloc: Global,
-    pattern: &Pattern,
-    outermost: &Ground,
-) -> Result<Option<Option<Match>>, AllocError>
-    requires { IsTerm outermost.now.term.now }
-    ensures { IfOk result (λ o. IfSome o (λ m.
-        m ≡ first_found (reach (table_of outermost.now.fixed.now) pattern.now.pieces (start (ground_of outermost.now))))) }
-{
-    if !pattern.is_straight() {
-        return Ok(None);
-    }
-    straight_match(alloc, outermost, pattern.pieces())
 }
 
 /// A term is lawful.
@@ -104,6 +123,7 @@ fn term_laws(term: &Term)
 }
 
 /// The first match of a pattern of symbols alone.
+#[inline(never)]
 fn first_of_symbols(
     alloc: Global,
     pieces: &[PatternPiece],

@@ -14,36 +14,37 @@ ghost use Rattle.form_match.specs.States.{Open, arguments, asking_too, factors, 
 ghost use Rattle.form_match.specs.Straight.{FindsOne, IsBehind, LeadsTo, is_power as is_power_piece, is_single as is_single_piece, named_power as named_power_in, only_choice};
 ghost use Rattle.form_match.specs.Values.{Binding};
 
+use crate::arguments::{ask_argument, first_argument, is_fixed_argument, lawful_arguments};
 use crate::asking::ask_function;
 use crate::choices::{short, take_absent, take_symbol, take_whole};
 use crate::frames::Ground;
 use crate::host::Host;
-use crate::search::{ask_argument, first_argument, is_fixed_argument, lawful_arguments};
 use crate::symbols::{clashes, power_at};
-use crate::{Bindings, Match, Use, Uses};
+use crate::{Bindings, Use, Uses};
 use form_term::{Call, Piece, Power};
 use form_tree::{Name, PatternPiece};
-use std::alloc::{AllocError, Global};
+use std::alloc::AllocError;
 
-/// The first match of such a pattern; none where it is another one.
+/// Whether such a pattern is found, and what it takes and binds then; none where it is another one.
 pub fn straight_match(
-    alloc: Global,
+    takes: &mut Uses,
+    bindings: &mut Bindings,
     outermost: &Ground,
     pieces: &[PatternPiece],
-) -> Result<Option<Option<Match>>, AllocError>
-    requires { IsTerm outermost.now.term.now }
-    ensures { IfOk result (λ o. IfSome o (λ m.
-        m ≡ first_found (reach (table_of outermost.now.fixed.now) pieces.now (start (ground_of outermost.now))))) }
+) -> Result<Option<bool>, AllocError>
+    requires lawful { IsTerm outermost.now.term.now }
+    requires untaken { takes.old ≡ [] }
+    requires unbound { bindings.old ≡ [] }
+    ensures { IfOk result (λ o. IfSome o (λ b. Finds b
+        (first_found (reach (table_of outermost.now.fixed.now) pieces.now (start (ground_of outermost.now)))) takes.new bindings.new)) }
 {
-    let mut takes = Uses::new(alloc);
-    let mut bindings = Bindings::new(alloc);
     let host = Host::outer(outermost.term, outermost.cuts, outermost.is_exact);
-    let powers = take_powers(&mut takes, &mut bindings, &host, pieces)?;
+    let powers = take_powers(takes, bindings, &host, pieces)?;
     let Some(rest) = powers else {
-        return Ok(Some(None));
+        return Ok(Some(false));
     };
     let Some((piece, behind)) = rest.split_first() else {
-        return Ok(Some(Some(Match { takes, bindings })));
+        return Ok(Some(true));
     };
     match piece {
         PatternPiece::Function(name) => call_match(takes, bindings, outermost, name, behind),
@@ -148,22 +149,20 @@ fn named_power<'a>(host: &Host<'a>, name: &Name) -> Option<&'a Power>
     }
 }
 
-/// The first match of a function, with these pieces behind its name, behind what is taken and bound.
+/// Whether a function is found, with these pieces behind its name, behind what is taken and bound.
 fn call_match(
-    takes: Uses,
-    bindings: Bindings,
+    takes: &mut Uses,
+    bindings: &mut Bindings,
     outermost: &Ground,
     name: &Name,
     behind: &[PatternPiece],
-) -> Result<Option<Option<Match>>, AllocError>
-    ensures { IfOk result (λ o. IfSome o (λ m. m ≡ first_found (reach (table_of outermost.now.fixed.now)
-        (of_pattern.Function name.now ∷ behind.now) (state (factors (ground_of outermost.now) takes ∷ []) bindings)))) }
+) -> Result<Option<bool>, AllocError>
+    ensures { IfOk result (λ o. IfSome o (λ b. Finds b (first_found (reach (table_of outermost.now.fixed.now)
+        (of_pattern.Function name.now ∷ behind.now) (state (factors (ground_of outermost.now) takes.old ∷ []) bindings.old))) takes.new bindings.new)) }
 {
-    let mut takes = takes;
-    let mut bindings = bindings;
     let functions = outermost.term.functions();
     let found = first_call(
-        &mut bindings,
+        bindings,
         takes.as_slice(),
         functions,
         outermost.fixed,
@@ -174,10 +173,10 @@ fn call_match(
         return Ok(None);
     };
     let Some(one) = first else {
-        return Ok(Some(None));
+        return Ok(Some(false));
     };
     takes.push(one)?;
-    Ok(Some(Some(Match { takes, bindings })))
+    Ok(Some(true))
 }
 
 /// The first function that is taken so, none where there is none; and none of that where its arguments are to be searched.

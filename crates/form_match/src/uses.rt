@@ -31,7 +31,7 @@ impl Default for Use {
 /// What the factors of a pattern take, in their order: in a clause their list.
 #[derive(Drop)]
 pub struct Uses {
-    uses: SmallVec<Use, 4>,
+    uses: SmallVec<Use, 2>,
 }
 
 impl Model for Uses {

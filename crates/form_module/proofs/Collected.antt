@@ -1,6 +1,8 @@
 -- Collecting a list as it comes.
-use Rattle.std.proofs.Common.{◌≡◌, ℕ, true, false, List, [], ◌∷◌, ◌++◌, Option, Some, None, Result, Ok, Err, refl, sym, subst, ap, ◌∙◌, append_assoc}
-use Rattle.std.proofs.lemmas.List.{append-nil}
+use Rattle.std.proofs.Common.{◌≡◌, ℕ, true, false, List, [], ◌∷◌, ◌++◌, Option, Some, None, Result, Ok, Err, refl, sym, subst, ap, ◌∙◌, append_assoc, arith}
+use Rattle.std.specs.Vec.Iter.{into_iter_items, into_iter_len}
+use Rattle.std.specs.declared.vec.IntoIter.{IntoIter}
+use Rattle.std.proofs.lemmas.List.{append-nil, nil_from_length}
 use Rattle.form_base.specs.declared.cause.Cause.{Cause}
 use Rattle.form_term.specs.declared.monomial.Monomial.{Monomial}
 use Rattle.form_collect.specs.Collecting.{collected}
@@ -17,6 +19,9 @@ use Rattle.form_check.specs.declared.checked.Rewriting.{Rewriting}
 use Rattle.form_flow.specs.Parts.{AreParts}
 use Rattle.form_flow.specs.Rewriting.{Part, outputs, through, through_each}
 use Rattle.form_module.specs.Answers.{IsAdded, IsRefused, of_collect, of_expand}
+use Rattle.form_module.specs.Batches.{IsBatch, behind}
+use Rattle.form_module.specs.declared.inputs.Batch.{Batch}
+use Rattle.form_module.specs.declared.inputs.BatchEnd.TheVariants as ends
 use Rattle.form_module.specs.Module.{collected_list, made_of, unless_ended, or_overflow}
 use Rattle.form_module.specs.declared.result_error.ResultError.{ResultError}
 use Rattle.form_module.specs.declared.result_error.ResultError.TheVariants as results
@@ -90,20 +95,6 @@ uncollected start left collector collects.Memory g ends why = tt
 -- ---- inputs, by what is made of them
 
 module _ (go : Monomial → Listing) (start : Listing) where
-  -- an input more
-  pub input_more : (old new : Listing) (m : Monomial) (collector more : Collector) → IsGathered start (through go old) collector → old ≡ before m new →
-      IsAdded (go m) collector more (Ok tt) → IsGathered start (through go new) more
-  input_more old new m collector more g gives added =
-      gathered_all start (through go old) (through go new) (go m) collector more g (ap (through go) gives ∙ through_before go m new) added.0 added.1
-
-  -- an input that isn't added
-  pub input_refused : (old new : Listing) (m : Monomial) (collector more : Collector) (e : ResultError) → IsGathered start (through go old) collector → old ≡ before m new →
-      IsAdded (go m) collector more (Err e) → IsRefused e (collected_list start)
-  input_refused old new m collector more (results.Refused cause) g gives added =
-      refused start (through go old) collector cause g
-      (ap (λ (l : Listing). l.end) (ap (through go) gives ∙ through_before go m new) ∙ followed_refused (go m) (through go new) cause added)
-  input_refused old new m collector more results.Memory g gives added = tt
-
   -- inputs that end by an error
   pub unfinished : (old new : Listing) (collector : Collector) (e : ExpandError) → IsGathered start (through go old) collector → next.Gives (Err e) old new →
       IsRefused (of_expand e) (collected_list start)
@@ -148,16 +139,113 @@ taken_refused start left new first collector after (expands.Refused cause) t end
     ap (λ (l : Listing). l.end) (t.whole ∙ ap (λ l. record { terms = t.taken ++ l.terms; end = l.end }) ends)
 taken_refused start left new first collector after expands.Memory t ends = tt
 
+-- ---- what is made of several inputs, as it comes
+
+-- what is done last of three lists in a row may be done first
+followed_again : (a b c : Listing) → followed (followed a b) c ≡ followed a (followed b c)
+unfolding followed_at
+followed_again a b c = by a.end b.end
+  where
+    by : (e f : Option Cause) → followed (followed_at a.terms e (record { terms = b.terms; end = f })) c ≡ followed_at a.terms e (followed_at b.terms f c)
+    by None None = ap (λ ms. record { terms = ms; end = c.end }) (append_assoc a.terms b.terms c.terms)
+    by None (Some cause) = refl
+    by (Some cause) f = refl
+
+-- the list of these terms
+abbrev pub all_of : List Monomial → Listing
+all_of ms = record { terms = ms; end = None }
+
+module _ (go : Monomial → Listing) where
+  -- what is made of terms in front of a list
+  pub through_behind : (ms : List Monomial) (l : Listing) → through go (behind ms l) ≡ followed (through go (all_of ms)) (through go l)
+  unfolding through_each followed_at
+  through_behind [] l = refl
+  through_behind (m ∷ ms) l =
+      ap (followed (go m)) (through_behind ms l) ∙ sym (followed_again (go m) (through go (all_of ms)) (through go l))
+
+  -- and of the next one of some
+  pub through_next : (old new : List Monomial) (m : Monomial) → old ≡ m ∷ new → through go (all_of old) ≡ followed (go m) (through go (all_of new))
+  through_next old new m is = ap (λ ms. through go (all_of ms)) is ∙ through_before go m (all_of new)
+
+  pub through_none : (left : List Monomial) → left ≡ [] → through go (all_of left) ≡ nothing
+  through_none left none = ap (λ ms. through go (all_of ms)) none ∙ through_nothing go
+
+-- what an iterator has left
+pub nothing_left : {X Z : Type 0} (it : IntoIter X Z) → into_iter_len it ≡ 0 → into_iter_items it ≡ []
+nothing_left it e = nil_from_length it.rest.items (omega arith)
+
+-- a list more
+pub taken_list : (start old new one : Listing) (first collector more : Collector) → IsTaken start old first collector → old ≡ followed one new →
+    IsAdded one collector more (Ok tt) → IsTaken start new first more
+taken_list start old new one first collector more t gives added = record {
+  taken = t.taken ++ one.terms;
+  adds = λ list is. subst (IsCollectionOf more) (append_assoc list t.taken one.terms) (added.1 (list ++ t.taken) (t.adds list is));
+  whole = t.whole ∙ ap (λ l. record { terms = t.taken ++ l.terms; end = l.end }) (gives ∙ followed_done one new added.0)
+      ∙ ap (λ ms. record { terms = ms; end = new.end }) (sym (append_assoc t.taken one.terms new.terms));
+}
+
+-- a list that isn't added
+pub list_refused : (start old new one : Listing) (first collector more after : Collector) (e : ResultError) → IsTaken start old first collector → old ≡ followed one new →
+    IsAdded one collector more (Err e) → IsAdded start first after (Err e)
+list_refused start old new one first collector more after (results.Refused cause) t gives added =
+    ap (λ (l : Listing). l.end) t.whole ∙ ap (λ (l : Listing). l.end) gives ∙ followed_refused one new cause added
+list_refused start old new one first collector more after results.Memory t gives added = tt
+
+-- ---- inputs as they are
+
+pub one_more : (start old new : Listing) (m : Monomial) (collector more : Collector) → IsGathered start old collector → old ≡ before m new →
+    ((list : List Monomial) → IsCollectionOf collector list → IsCollectionOf more (list ++ m ∷ [])) → IsGathered start new more
+unfolding followed_at
+one_more start old new m collector more g gives adds = gathered_all start old new (record { terms = m ∷ []; end = None }) collector more g gives refl adds
+
+pub ended : (start old new : Listing) (collector : Collector) (e : ExpandError) → IsGathered start old collector → next.Gives (Err e) old new →
+    IsRefused (of_expand e) (collected_list start)
+ended start old new collector (expands.Refused cause) g ends = refused start old collector cause g (ap (λ (l : Listing). l.end) ends)
+ended start old new collector expands.Memory g ends = tt
+
+singles : (max : ℕ) (ms : List Monomial) (end : Option Cause) → through_each (made_of max []) ms end ≡ record { terms = ms; end = end }
+unfolding through_each followed_at
+singles max [] end = refl
+singles max (m ∷ ms) end = ap (λ (l : Listing). record { terms = m ∷ l.terms; end = l.end }) (singles max ms end)
+
+pub as_they_are : (max : ℕ) (groups : List (List Rewriting)) (pss : List (List Part)) (l : Listing) → is_nil groups ≡ true → AreParts groups pss → l ≡ through (made_of max pss) l
+as_they_are max [] [] l none are = sym (singles max l.terms l.end)
+as_they_are max [] (ps ∷ pss) l none are = absurd are
+as_they_are max (g ∷ gs) pss l none are = absurd (not_true none)
+
+-- ---- a batch of inputs
+
+module _ (go : Monomial → Listing) (start old new : Listing) (b : Batch) (collector more : Collector) (g : IsGathered start (through go old) collector) (is : IsBatch b old new) where
+  pub batch_added : IsAdded (through go (all_of b.items.items)) collector more (Ok tt) → IsGathered start (through go is.left) more
+  batch_added added =
+      gathered_all start (through go old) (through go is.left) (through go (all_of b.items.items)) collector more g
+      (ap (through go) is.whole ∙ through_behind go b.items.items is.left) added.0 added.1
+
+  pub batch_refused : (e : ResultError) → IsAdded (through go (all_of b.items.items)) collector more (Err e) → IsRefused e (collected_list start)
+  batch_refused (results.Refused cause) added =
+      refused start (through go old) collector cause g
+      (ap (λ (l : Listing). l.end) (ap (through go) is.whole ∙ through_behind go b.items.items is.left)
+      ∙ followed_refused (through go (all_of b.items.items)) (through go is.left) cause added)
+  batch_refused results.Memory added = tt
+
+  pub batch_more : b.end ≡ ends.More → IsAdded (through go (all_of b.items.items)) collector more (Ok tt) → IsGathered start (through go new) more
+  batch_more e added = subst (λ (l : Listing). IsGathered start (through go l) more) (rw e at is.ends) (batch_added added)
+
+  pub batch_done : b.end ≡ ends.Done → IsAdded (through go (all_of b.items.items)) collector more (Ok tt) → IsGathered start nothing more
+  batch_done e added = subst (λ (l : Listing). IsGathered start l more) (ap (through go) (rw e at is.ends) ∙ through_nothing go) (batch_added added)
+
+  pub batch_failed : (error : ExpandError) → b.end ≡ ends.Failed error → IsAdded (through go (all_of b.items.items)) collector more (Ok tt)
+      → IsRefused (of_expand error) (collected_list start)
+  batch_failed error e added = unfinished go start is.left new more error (batch_added added) (rw e at is.ends)
+
+-- inputs that were read, one more, and the last
+pub read_more : (start old new : Listing) (items now : List Monomial) (m : Monomial) → start ≡ behind items old → old ≡ before m new → now ≡ items ++ m ∷ [] → start ≡ behind now new
+read_more start old new items now m so_far gives put =
+    so_far ∙ ap (behind items) gives ∙ ap (λ ms. record { terms = ms; end = new.end }) (sym (append_assoc items (m ∷ []) new.terms) ∙ ap (λ ns. ns ++ new.terms) (sym put))
+
 -- ---- what is made of one input
 
--- without statements it is as it was
-pub as_it_is : (max : ℕ) (groups : List (List Rewriting)) (pss : List (List Part)) (m : Monomial) (old new : Collector) → is_nil groups ≡ true → AreParts groups pss →
-    ((list : List Monomial) → IsCollectionOf old list → IsCollectionOf new (list ++ m ∷ [])) → IsAdded (made_of max pss m) old new (Ok tt)
-as_it_is max [] [] m old new none are adds = (refl, adds)
-as_it_is max [] (ps ∷ pss) m old new none are adds = absurd are
-as_it_is max (g ∷ gs) pss m old new none are adds = absurd (not_true none)
-
--- and else the statements' outputs
+-- the statements' outputs
 pub by_statements : (max : ℕ) (groups : List (List Rewriting)) (pss : List (List Part)) (m : Monomial) → is_nil groups ≡ false → AreParts groups pss →
     made_of max pss m ≡ outputs max pss m
 by_statements max [] pss m some are = absurd (not_true (sym some))

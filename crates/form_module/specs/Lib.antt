@@ -1,4 +1,5 @@
 pub mod Answers
+pub mod Batches
 pub mod Inputs
 pub mod Kept
 pub mod Module

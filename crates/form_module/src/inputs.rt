@@ -1,10 +1,12 @@
 //! What the statements of a module are carried out on, term by term.
+ghost use Rattle.std.specs.Prelude.{IfOk};
 ghost use Rattle.form_expand.specs.Next.{Gives as GivesNext};
+ghost use Rattle.form_module.specs.Batches.{IsBatch};
 ghost use Rattle.form_module.specs.Inputs.{inputs_left, terms_left};
 
 use form_expand::{ExpandError, Expansion};
 use form_term::Monomial;
-use std::alloc::Global;
+use std::alloc::{AllocError, Global};
 
 /// The terms that an expression stands for, and how many of them were taken.
 #[derive(Drop)]
@@ -47,4 +49,45 @@ impl Kept<'_> {
         self.taken += 1;
         Ok(Some(item))
     }
+}
+
+/// How many inputs are read at once.
+const MOST_AT_ONCE: usize = 32;
+
+/// Inputs that were read at once.
+#[derive(Drop)]
+pub struct Batch {
+    pub items: Vec<Monomial>,
+    pub end: BatchEnd,
+}
+
+/// Why no more of them were read.
+#[derive(Drop)]
+pub enum BatchEnd {
+    /// There may be more.
+    More,
+    Done,
+    Failed(ExpandError),
+}
+
+/// The next inputs.
+pub fn next_batch(alloc: Global, inputs: &mut Inputs) -> Result<Batch, AllocError>
+    ensures { IfOk result (λ batch. IsBatch batch (inputs_left inputs.old) (inputs_left inputs.new)) }
+{
+    let mut items = Vec::with_capacity(alloc, MOST_AT_ONCE)?;
+    for _made in 0..MOST_AT_ONCE {
+        match inputs.next(alloc) {
+            Ok(Some(item)) => items.push(item)?,
+            Ok(None) => {
+                let end = BatchEnd::Done;
+                return Ok(Batch { items, end });
+            }
+            Err(error) => {
+                let end = BatchEnd::Failed(error);
+                return Ok(Batch { items, end });
+            }
+        }
+    }
+    let end = BatchEnd::More;
+    Ok(Batch { items, end })
 }

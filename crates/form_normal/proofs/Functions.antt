@@ -1,10 +1,11 @@
 -- Multiplying by a function in place.
-use Rattle.std.proofs.Common.{◌≡◌, ℕ, suc, ◌+◌, ◌<◌, ◌≤◌, Bool, true, false, not, cond, ◌&&◌, List, [], ◌∷◌, ◌++◌, map, append-nil, refl, ap, sym, subst, ◌∙◌, arith}
-use Rattle.std.specs.Prelude.{Ok, Some, ℤ, pos, ◌+ℤ◌, All, sum}
+use Rattle.std.proofs.Common.{◌≡◌, ℕ, suc, ◌+◌, ◌<◌, ◌≤◌, Bool, true, false, not, cond, ◌&&◌, List, [], ◌∷◌, ◌++◌, map, append-nil, append_assoc, refl, ap, sym, subst, ◌∙◌, arith}
+use Rattle.std.specs.Prelude.{Ok, Err, Some, None, ℤ, pos, ◌+ℤ◌, All, sum}
 use Rattle.std.specs.List.{filter, insert, prefix_len}
 use Rattle.std.specs.Ordering.{is_gt}
 use Rattle.std.proofs.lemmas.Int.{ints}
-use Rattle.form_frac.specs.Fraction.{Fraction, IsLowest}
+use Rattle.form_base.specs.declared.cause.Cause.TheVariants.{Overflow}
+use Rattle.form_frac.specs.Fraction.{Fraction, IsLowest, multiply}
 use Rattle.form_term.specs.declared.index.Delta.{Delta}
 use Rattle.form_term.specs.declared.monomial.Monomial.{Monomial}
 use Rattle.form_term.specs.Factor.{function_factor, non_commuting_factor}
@@ -17,9 +18,9 @@ use Rattle.form_normal.specs.Lists.{in_order, dots_product}
 use Rattle.form_normal.specs.Product.{is_one, symbols_product, others_product, term_product, turned, limited, product, product_of, function_alone, word_alone, StandsAlone}
 use Rattle.form_normal.proofs.Dots.{dots_same}
 use Rattle.form_normal.proofs.Lasting.{multiply_one, odd, within, one_is_lowest, one_alone, all_kept, no_zeros_in}
-use Rattle.form_normal.proofs.Order.{all_append, all_above, take_left, take_right, in_order_same, sum_in_order, sum_first}
+use Rattle.form_normal.proofs.Order.{all_append, all_above, take_left, take_right, in_order_same, in_order_again, in_order_rises, sum_in_order, sum_first}
 use Rattle.form_normal.proofs.Others.{joined_lawful, sizes_append}
-use Rattle.form_normal.proofs.Parts.{product_made}
+use Rattle.form_normal.proofs.Parts.{product_made, product_overflows}
 use Rattle.form_normal.proofs.Powers.{product_from}
 
 -- a function put among others that rise, behind those that are no higher
@@ -39,6 +40,19 @@ placed (f ∷ fs) c rise = step (is_gt (call_order f c)) refl (placed fs c rise.
         take_left call_order f (fs ++ c ∷ []) (all_append (λ y. is_gt (call_order f y) ≡ false) fs (c ∷ []) rise.0 (e, tt))
         ∙ ap (λ xs. f ∷ xs) rest
         ∙ ap (λ k. insert (f ∷ fs) k c) (sym n)
+
+-- the first of several functions is put among others
+pub placed_more : (fs : List Call) (c : Call) (rest whole gs : List Call) → RisesBy call_order fs → in_order call_order (fs ++ c ∷ rest) ≡ whole → gs ≡ insert fs (prefix_len (λ other. is_upto other c) fs) c
+    → (in_order call_order (gs ++ rest) ≡ whole) × RisesBy call_order gs
+placed_more fs c rest whole gs rise is e =
+    let made : gs ≡ in_order call_order (fs ++ c ∷ []) = e ∙ sym (placed fs c rise) in (
+      ap (λ (hs : List Call). in_order call_order (hs ++ rest)) made ∙ in_order_again call_order call_order_total (fs ++ c ∷ []) rest ∙ ap (in_order call_order) (append_assoc fs (c ∷ []) rest) ∙ is,
+      subst (RisesBy call_order) (sym made) (in_order_rises call_order call_order_total (fs ++ c ∷ [])),
+    )
+
+-- where none are left, all are put
+pub placed_all : (fs whole : List Call) → RisesBy call_order fs → in_order call_order (fs ++ []) ≡ whole → fs ≡ whole
+placed_all fs whole rise is = sym (in_order_same call_order fs rise) ∙ ap (in_order call_order) (sym (append-nil fs)) ∙ is
 
 pub put_at : (t : Term) (c : Call) (fs : List Call) (place : ℕ) → IsTerm t → fs ≡ t.others.functions → place ≡ prefix_len (λ other. is_upto other c) fs
     → in_order call_order (t.others.functions ++ c ∷ []) ≡ insert t.others.functions place c
@@ -174,6 +188,15 @@ module _ (m : Monomial) (c : Call) (lowest : IsLowest m.coefficient) (lawful : I
   pub word_made : product_of m (word_alone c) ≡ Ok (Some (record { coefficient = m.coefficient; term = word_put c m.term }))
   word_made =
       product_made m (word_alone c) m.coefficient m.coefficient (word_put c m.term) (no_zeros_in m.term.others.deltas room.unfixed) (multiply_one m.coefficient lowest) (no_turn m.term.others.is_imaginary m.coefficient) (word_limited m.term c lawful is room)
+
+  -- the same with a coefficient at the function
+  pub function_times : (number made : Fraction) (place : ℕ) → multiply m.coefficient number ≡ Some made → in_order call_order (m.term.others.functions ++ c ∷ []) ≡ insert m.term.others.functions place c
+      → product_of m (record { coefficient = number; term = function_factor c }) ≡ Ok (Some (record { coefficient = made; term = function_put place c m.term }))
+  function_times number made place times e =
+      product_made m (record { coefficient = number; term = function_factor c }) made made (function_put place c m.term) (no_zeros_in m.term.others.deltas room.unfixed) times (no_turn m.term.others.is_imaginary made) (function_limited m.term c lawful is room place e)
+
+  pub function_overflows : (number : Fraction) → multiply m.coefficient number ≡ None → product_of m (record { coefficient = number; term = function_factor c }) ≡ Err Overflow
+  function_overflows number none = product_overflows m (record { coefficient = number; term = function_factor c }) (no_zeros_in m.term.others.deltas room.unfixed) none
 
 -- A function as a factor alone.
 module _ (c : Call) where

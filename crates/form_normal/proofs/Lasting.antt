@@ -1,5 +1,5 @@
 -- Multiplying by a single factor in place.
-use Rattle.std.proofs.Common.{◌≡◌, ℕ, zero, suc, ◌*◌, ◌/◌, ◌-◌, ◌+◌, ◌<◌, ◌≤◌, Bool, true, false, not, cond, ◌&&◌, ◌||◌, List, [], ◌∷◌, ◌++◌, append-nil, length, get_or, refl, ap, sym, ◌∙◌, arith, ltb, is_lt, nat_cmp}
+use Rattle.std.proofs.Common.{◌≡◌, ℕ, zero, suc, ◌*◌, ◌/◌, ◌-◌, ◌<◌, ◌≤◌, Bool, true, false, not, ◌&&◌, ◌||◌, List, [], ◌∷◌, ◌++◌, append-nil, length, get_or, refl, ap, sym, ◌∙◌, arith, ltb, is_lt, nat_cmp}
 use Rattle.std.specs.Prelude.{Ok, Some, None, ℤ, pos, negsuc, ◌+ℤ◌, ◌*ℤ◌, ◌==◌, ◌%◌, sum, nat_abs, if◌then◌else◌}
 use Rattle.std.specs.Bool.{OnTrue}
 use Rattle.std.specs.List.{filter, list_any}
@@ -16,7 +16,7 @@ use Rattle.form_term.specs.declared.power.Power.{Power}
 use Rattle.form_term.specs.declared.index.Delta.{Delta}
 use Rattle.form_term.specs.declared.monomial.Monomial.{Monomial}
 use Rattle.form_term.specs.Monomial.{unit}
-use Rattle.form_term.specs.Term.{Term, Others, IsTerm, RiseFrom, of_symbols, nothing, one, symbol_power, exponent_in, exponent_of, reach_of, size, depth, component_order, delta_order, call_order, largest_exponent, largest_size}
+use Rattle.form_term.specs.Term.{Term, IsTerm, RiseFrom, of_symbols, one, symbol_power, exponent_in, exponent_of, reach_of, size, depth, component_order, delta_order, call_order, largest_exponent, largest_size}
 use Rattle.form_term.specs.Terms.{term}
 use Rattle.form_term.specs.TermLaws.{symbols_lawful, power_lawful}
 use Rattle.form_normal.specs.Lists.{in_order, dots_product}
@@ -25,7 +25,6 @@ use Rattle.form_normal.specs.Factors.{IsPresent, IsInRange}
 use Rattle.form_normal.proofs.Limits.{are_in_range_from, are_dots_in_range_from}
 use Rattle.form_normal.proofs.Order.{in_order_same}
 use Rattle.form_normal.proofs.Dots.{dots_same}
-use Rattle.form_normal.proofs.Others.{nothing_together}
 use Rattle.form_normal.proofs.Parts.{product_made}
 use Rattle.form_normal.proofs.Powers.{exponent_append, rise_behind, product_from}
 

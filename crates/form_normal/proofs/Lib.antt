@@ -6,4 +6,5 @@ pub mod Limits
 pub mod Order
 pub mod Others
 pub mod Parts
+pub mod Places
 pub mod Powers

@@ -1,6 +1,6 @@
 -- Lists in order.
-use Rattle.std.proofs.Common.{◌≡◌, ℕ, suc, ◌+◌, ◌≤◌, Bool, true, false, cond, not, List, [], ◌∷◌, ◌++◌, map, length, refl, ap, sym, ◌∙◌, arith, append-nil, append_assoc, ◌⊎◌, inl, inr}
-use Rattle.std.specs.Prelude.{max, sum}
+use Rattle.std.proofs.Common.{◌≡◌, ℕ, suc, ◌+◌, Bool, true, false, cond, List, [], ◌∷◌, ◌++◌, map, length, refl, ap, sym, ◌∙◌, arith, append-nil, append_assoc, ◌⊎◌, inl, inr}
+use Rattle.std.specs.Prelude.{sum}
 use Rattle.std.specs.List.{AllByRecursion, filter}
 use Rattle.std.specs.Ordering.{is_gt, ordering_reverse}
 use Rattle.std.specs.Cmp.{IsTotalOrder}
@@ -155,6 +155,34 @@ module _ {A : Type 0} (cmp : A → A → Ordering) where
     -- where one of the left comes next, it is above none of the right
     pub all_upto : (x y : A) (ys : List A) → is_gt (cmp x y) ≡ false → AllByRecursion (λ z. is_gt (cmp y z) ≡ false) ys → AllByRecursion (λ z. is_gt (cmp x z) ≡ false) (y ∷ ys)
     all_upto x y ys e h = (e, all_map (λ z. is_gt (cmp y z) ≡ false) (λ z. is_gt (cmp x z) ≡ false) (λ z k. upto o x y z e k) ys h)
+
+    -- two elements may be put in the one or the other way round, if one is above the other
+    put_two : (x y : A) (zs : List A) → is_gt (cmp x y) ≡ true → put_in cmp y (put_in cmp x zs) ≡ put_in cmp x (put_in cmp y zs)
+    put_two x y [] e = rw (back x y e, e) refl
+    put_two x y (z ∷ zs) e = step (is_gt (cmp x z)) (is_gt (cmp y z)) refl refl (put_two x y zs e)
+      where
+        step : (a b : Bool) → is_gt (cmp x z) ≡ a → is_gt (cmp y z) ≡ b → put_in cmp y (put_in cmp x zs) ≡ put_in cmp x (put_in cmp y zs)
+            → put_in cmp y (put_in cmp x (z ∷ zs)) ≡ put_in cmp x (put_in cmp y (z ∷ zs))
+        step true true f g rest = rw (f, g, f) (ap (λ (ws : List A). z ∷ ws) rest)
+        step true false f g rest = rw (f, g, e, f) refl
+        step false true f g rest = let h = upto o x z y f (back y z g) in absurd (cc)
+        step false false f g rest = rw (f, g, back x y e, e, f) refl
+
+    put_before : (x : A) (zs ys : List A) → in_order cmp (put_in cmp x zs ++ ys) ≡ put_in cmp x (in_order cmp (zs ++ ys))
+    unfolding in_order
+    put_before x [] ys = refl
+    put_before x (z ∷ zs) ys = step (is_gt (cmp x z)) refl (put_before x zs ys)
+      where
+        step : (b : Bool) → is_gt (cmp x z) ≡ b → in_order cmp (put_in cmp x zs ++ ys) ≡ put_in cmp x (in_order cmp (zs ++ ys))
+            → in_order cmp (cond b (z ∷ put_in cmp x zs) (x ∷ z ∷ zs) ++ ys) ≡ put_in cmp x (put_in cmp z (in_order cmp (zs ++ ys)))
+        step true f rest = ap (put_in cmp z) rest ∙ put_two x z (in_order cmp (zs ++ ys)) f
+        step false f rest = refl
+
+    -- the first of two lists may be put in order before
+    pub in_order_again : (xs ys : List A) → in_order cmp (in_order cmp xs ++ ys) ≡ in_order cmp (xs ++ ys)
+    unfolding in_order
+    in_order_again [] ys = refl
+    in_order_again (x ∷ xs) ys = put_before x (in_order cmp xs) ys ∙ ap (put_in cmp x) (in_order_again xs ys)
 
 -- The walk: `out` is made, and what is left of both is `l` before `ls` and `r` before `rs`.
 module _ {A : Type 0} (cmp : A → A → Ordering) (o : IsTotalOrder cmp) (whole out : List A) (l : A) (ls : List A) (r : A) (rs : List A)

@@ -1,20 +1,19 @@
 -- What holds of the other factors of a product of two terms.
 use Rattle.std.proofs.Common.{◌≡◌, ℕ, suc, ◌+◌, ◌<◌, ◌≤◌, ◌^◌, Bool, true, false, cond, not, ◌&&◌, List, [], ◌∷◌, ◌++◌, map, length, refl, ap, sym, ◌∙◌, arith, append-nil}
-use Rattle.std.specs.Prelude.{All, max, sum, nat_abs}
-use Rattle.std.specs.List.{AllByRecursion, filter, flat_map}
+use Rattle.std.specs.Prelude.{All, max, sum, ◌==◌, ◌%◌, ◌||◌, if◌then◌else◌}
+use Rattle.std.specs.List.{AllByRecursion, filter, flat_map, list_any}
 use Rattle.std.specs.Ordering.{is_gt}
-use Rattle.std.specs.declared.cmp.Ordering.{Ordering}
 use Rattle.std.proofs.lemmas.Bool.{and_parts}
 use Rattle.std.proofs.lemmas.List.Elements.{recursion_from_All, All-from_recursion}
+use Rattle.form_frac.specs.Fraction.{Fraction}
 use Rattle.form_term.specs.declared.power.DotPower.{DotPower}
-use Rattle.form_term.specs.declared.index.Component.{Component}
 use Rattle.form_term.specs.declared.index.Delta.{Delta}
 use Rattle.form_term.specs.Pieces.{deepest}
-use Rattle.form_term.specs.Term.{Term, Others, Call, IsTerm, IsCall, RisesBy, pair_order, index_order, component_order, delta_order, call_order, nothing, is_nothing, is_nil, size, depth, size_of_call, size_of_others, depth_of_calls, depth_of_others, largest_size, largest_depth}
+use Rattle.form_term.specs.Term.{Term, Others, Call, IsTerm, IsCall, index_order, component_order, delta_order, call_order, nothing, is_nothing, is_nil, size_of_call, depth_of_calls, largest_depth}
 use Rattle.form_term.specs.TermLaws.{component_order_total, delta_order_total, call_order_total}
 use Rattle.form_normal.specs.Lists.{in_order, dots_product}
-use Rattle.form_normal.specs.Factors.{AreJoined}
-use Rattle.form_normal.specs.Product.{is_one, others_product}
+use Rattle.form_normal.specs.Factors.{AreJoined, IsPlain}
+use Rattle.form_normal.specs.Product.{is_one, is_zero, turned, others_product}
 use Rattle.form_normal.proofs.Order.{all_append, all_filter, all_in_order, in_order_rises, rises_filter, sum_in_order, length_in_order, sum_first}
 use Rattle.form_normal.proofs.Dots.{IsThere, all_dots, dots_rise, dots_there, dots_length}
 
@@ -157,3 +156,32 @@ nothing_from o e =
 pub nothing_together : (l r : Term) → is_nothing l.others ≡ true → is_nothing r.others ≡ true → nothing ≡ others_product (l ∷ r ∷ [])
 unfolding others_product in_order dots_product
 nothing_together l r e f = rw (nothing_from l.others e, nothing_from r.others f) refl
+
+-- two factors of powers of symbols and functions have functions together
+empty_both : {A : Type 0} (xs ys : List A) → xs ≡ [] → ys ≡ [] → [] ≡ xs ++ (ys ++ [])
+empty_both xs ys e f = rw (e, f) refl
+
+pub functions_together : (l r : Term) (fs : List Call) → IsPlain l → IsPlain r → fs ≡ in_order call_order (l.others.functions ++ r.others.functions) → record nothing { functions = fs } ≡ others_product (l ∷ r ∷ [])
+unfolding others_product dots_product in_order
+functions_together l r fs p q e =
+    let dots = ap dots_product (empty_both l.others.dots r.others.dots (ap (λ (o : Others). o.dots) p) (ap (λ (o : Others). o.dots) q)) in
+    let components = ap (in_order component_order) (empty_both l.others.components r.others.components (ap (λ (o : Others). o.components) p) (ap (λ (o : Others). o.components) q)) in
+    let deltas = ap (λ ds. filter (λ (d : Delta). not (is_one d)) (in_order delta_order ds)) (empty_both l.others.deltas r.others.deltas (ap (λ (o : Others). o.deltas) p) (ap (λ (o : Others). o.deltas) q)) in
+    let functions = e ∙ ap (λ (cs : List Call). in_order call_order (l.others.functions ++ cs)) (sym (append-nil r.others.functions)) in
+    let word = empty_both l.others.word r.others.word (ap (λ (o : Others). o.word) p) (ap (λ (o : Others). o.word) q) in
+    λ i. record { is_imaginary = imaginary i; dots = dots i; components = components i; deltas = deltas i; functions = functions i; word = word i }
+  where
+    imaginary : false ≡ (sum ((if l.others.is_imaginary then 1 else 0) ∷ (if r.others.is_imaginary then 1 else 0) ∷ []) % 2 == 1)
+    imaginary = rw (ap (λ (o : Others). o.is_imaginary) p, ap (λ (o : Others). o.is_imaginary) q) refl
+
+-- their product isn't 0, and has no sign
+pub plain_zeros : (l r : Term) → IsPlain l → IsPlain r → (list_any is_zero l.others.deltas || list_any is_zero r.others.deltas) ≡ false
+plain_zeros l r p q = rw (ap (λ (o : Others). o.deltas) p, ap (λ (o : Others). o.deltas) q) refl
+
+pub plain_turn : (l r : Term) (c : Fraction) → IsPlain l → c ≡ turned (l.others.is_imaginary && r.others.is_imaginary) c
+plain_turn l r c p = rw (ap (λ (o : Others). o.is_imaginary) p) refl
+
+-- the functions of the one are put among those of the other
+pub functions_put : (l r : Term) (v : Others) (fs : List Call) → IsPlain l → IsPlain r → v ≡ l.others → fs ≡ in_order call_order (v.functions ++ r.others.functions) → record v { functions = fs } ≡ others_product (l ∷ r ∷ [])
+functions_put l r v fs p q e f =
+    ap (λ (o : Others). record o { functions = fs }) (e ∙ p) ∙ functions_together l r fs p q (f ∙ ap (λ (o : Others). in_order call_order (o.functions ++ r.others.functions)) e)

@@ -1,9 +1,9 @@
 -- The product of two terms by its parts.
 use Rattle.std.proofs.Common.{◌≡◌, Bool, true, false, not, ◌&&◌, ◌||◌, List, [], ◌∷◌, ◌++◌, Option, Some, None, Result, Ok, Err, refl, ap, sym, ◌∙◌, append-nil}
-use Rattle.std.specs.Prelude.{◌==◌, ◌%◌, ◌/◌, sum, if◌then◌else◌, option_map}
+use Rattle.std.specs.Prelude.{◌==◌, ◌%◌, ◌/◌, sum, if◌then◌else◌}
 use Rattle.std.specs.Bool.{beq}
 use Rattle.std.specs.Option.{ok_or}
-use Rattle.std.specs.List.{range_with_len, list_any, flat_map}
+use Rattle.std.specs.List.{range_with_len, list_any}
 use Rattle.std.proofs.lemmas.List.Folds.{list_any-append}
 use Rattle.form_base.specs.declared.cause.Cause.{Cause}
 use Rattle.form_base.specs.declared.cause.Cause.TheVariants.{Overflow}
@@ -14,7 +14,7 @@ use Rattle.form_term.specs.Term.{Term, Others, of_symbols}
 use Rattle.form_term.specs.Terms.{term}
 use Rattle.form_term.specs.SymbolLaws.{ArePowers}
 use Rattle.form_term.specs.PowerLaws.{powers_rise, powers_present}
-use Rattle.form_normal.specs.Product.{symbols_product, exponent_sum, reach_of_all, others_product, term_product, limited, vanishes, is_zero, is_turned, turned, product, product_of}
+use Rattle.form_normal.specs.Product.{symbols_product, exponent_sum, reach_of_all, others_product, term_product, limited, vanishes, is_zero, turned, product, product_of}
 
 -- the powers of a product are as a term's are
 pub powers_lawful : (ts : List Term) → ArePowers (symbols_product ts)

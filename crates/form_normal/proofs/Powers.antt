@@ -5,7 +5,7 @@ use Rattle.std.proofs.lemmas.Bool.{eqb-true}
 use Rattle.std.proofs.lemmas.Int.{ints}
 use Rattle.std.proofs.lemmas.List.Elements.{All-nil, All-cons, All-head, All-tail, All-append}
 use Rattle.form_term.specs.declared.power.Power.{Power}
-use Rattle.form_term.specs.Term.{Term, RiseFrom, of_symbols, exponent_in, exponent_of, reach_of, largest_exponent}
+use Rattle.form_term.specs.Term.{Term, RiseFrom, of_symbols, exponent_in, reach_of}
 use Rattle.form_term.specs.PowerLaws.{absent_before, absent_past, powers_agree, powers_wider, rise_lower, powers_again, exponent_again}
 use Rattle.form_normal.specs.Factors.{IsPresent, IsInRange, IsProductive}
 use Rattle.form_normal.specs.Product.{symbols_product, exponent_sum, reach_of_all}
@@ -202,3 +202,10 @@ exponent_of_product ts symbol =
     let n = reach_of_all ts in
     let more = suc symbol in
     ap (λ (ps : List Power). exponent_in ps symbol) (sym (powers_wider 0 n more (exponent_sum ts) (λ other from. sum_past ts other (omega arith)))) ∙ exponent_again 0 (n + more) (exponent_sum ts) symbol (omega arith) (omega arith)
+
+-- powers and no others
+pub none_merged : (ps qs : List Power) → RiseFrom 0 ps → All IsPresent ps → qs ≡ [] → ps ≡ symbols_product (of_symbols ps ∷ of_symbols qs ∷ [])
+none_merged ps qs rise present none = rw none (product_from ps (of_symbols ps ∷ of_symbols [] ∷ []) rise present (λ symbol. add (exponent_in ps symbol)))
+  where
+    add : (x : ℤ) → x ≡ x +ℤ (pos 0 +ℤ pos 0)
+    add x = omega (arith, ints)

@@ -5,7 +5,7 @@ use Rattle.std.specs.List.Sorted.{IsStrictlySortedBy}
 use Rattle.std.specs.Ordering.{is_gt}
 use Rattle.form_term.specs.declared.power.Power.{Power}
 use Rattle.form_term.specs.Pieces.{deepest}
-use Rattle.form_term.specs.Term.{Term, Call, Others, RiseFrom, RisesBy, IsCall, pair_order, index_order, component_order, delta_order, call_order, depth_of_others, size, size_of_call, size_of_others, largest_exponent, largest_size, largest_depth}
+use Rattle.form_term.specs.Term.{Term, Call, Others, RiseFrom, RisesBy, IsCall, pair_order, index_order, component_order, delta_order, call_order, nothing, depth_of_others, size, size_of_call, size_of_others, largest_exponent, largest_size, largest_depth}
 use Rattle.form_normal.specs.Product.{is_fixed}
 
 abbrev pub IsPresent : Power → Type 0
@@ -43,3 +43,7 @@ pub record HasRoom (t : Term) (c : Call) : Type 0 where
 -- a function is no higher than another
 abbrev pub is_upto : Call → Call → Bool
 is_upto c d = not (is_gt (call_order c d))
+
+-- a term has powers of symbols and commuting functions alone
+abbrev pub IsPlain : Term → Type 0
+IsPlain t = t.others ≡ record nothing { functions = t.others.functions }

@@ -1,13 +1,17 @@
 //! Products with a single factor, made in place where they can be.
-ghost use Rattle.std.specs.Prelude.{◌≡◌, ◌≤◌, ◌<◌, ◌++◌, nat_abs, length, [], ◌∷◌, false, Ok, Some, IfOk, IfSome, OnSome};
+ghost use Rattle.std.specs.Prelude.{◌≡◌, ◌≤◌, ◌<◌, ◌++◌, nat_abs, length, [], ◌∷◌, false, Ok, Err, Some, IfOk, IfSome, OnOk, OnSome};
 ghost use Rattle.std.specs.Bool.{OnTrue};
 ghost use Rattle.std.specs.List.{list_any, prefix_len};
-ghost use Rattle.form_term.specs.Term.{IsTerm, size, largest_exponent, largest_size};
+ghost use Rattle.form_base.specs.declared.cause.Cause.{Cause};
+ghost use Rattle.form_term.specs.Factor.{function_factor};
+ghost use Rattle.form_term.specs.Term.{IsTerm, RisesBy, call_order, nothing, of_others, one, size, largest_exponent, largest_size};
 ghost use Rattle.form_term.specs.Terms.{term};
-ghost use Rattle.form_normal.specs.Factors.{HasRoom, is_upto};
-ghost use Rattle.form_normal.specs.Product.{is_fixed as is_fixed_of, number_alone, power_alone, function_alone, word_alone, product_of, Multiplies, StandsAlone};
+ghost use Rattle.form_normal.specs.Factors.{HasRoom, IsPlain, is_upto};
+ghost use Rattle.form_normal.specs.Lists.{in_order};
+ghost use Rattle.form_normal.specs.Product.{is_fixed as is_fixed_of, number_alone, power_alone, function_alone, word_alone, limited as limited_of, term_product, product_of, Multiplies, StandsAlone};
 
-use crate::products::{LARGEST_SIZE, ProductError, is_one, is_zero, product};
+use crate::merging::merged_onto;
+use crate::products::{LARGEST_SIZE, ProductError, is_one, is_plain, is_zero, limited, product};
 use form_base::Cause;
 use form_frac::Frac;
 use form_term::{Call, Delta, Monomial, Power, Term};
@@ -117,6 +121,142 @@ pub fn times_word(
     Ok(Some(Monomial { coefficient, term }))
 }
 
+/// The product of two terms with their coefficients as `product` gives it, of which the first is the caller's own: where
+/// the second is a number or one commuting function, the first is changed in place, and where both have powers of symbols
+/// and commuting functions alone, its functions stay where they are.
+pub fn product_onto(
+    alloc: Global,
+    front: Monomial,
+    factor: &Monomial,
+) -> Result<Option<Monomial>, ProductError>
+    ensures ok { IfOk result (λ m. product_of front factor.now ≡ Ok m) }
+    ensures refused { (cause : Cause) → result ≡ Err (ProductError.Refused cause) →
+        product_of front factor.now ≡ Err cause }
+{
+    if is_number(&factor.term) {
+        return number_onto(alloc, front, factor.coefficient);
+    }
+    front.laws();
+    if let Some(call) = lone_function(&factor.term) {
+        if has_room(&front.term, call) {
+            return function_onto(alloc, front, factor.coefficient, call);
+        }
+    }
+    if is_plain(&front.term) && is_plain(&factor.term) {
+        return plain_onto(alloc, front, factor);
+    }
+    product(alloc, &front, factor)
+}
+
+fn number_onto(
+    alloc: Global,
+    mut front: Monomial,
+    number: Frac,
+) -> Result<Option<Monomial>, ProductError>
+    ensures ok { IfOk result (λ m. product_of front (number_alone number) ≡ Ok m) }
+    ensures refused { (cause : Cause) → result ≡ Err (ProductError.Refused cause) →
+        product_of front (number_alone number) ≡ Err cause }
+{
+    match multiply_by_number(alloc, &mut front, number) {
+        Ok(true) => Ok(Some(front)),
+        Ok(false) => Ok(None),
+        Err(error) => Err(error),
+    }
+}
+
+fn function_onto(
+    alloc: Global,
+    front: Monomial,
+    number: Frac,
+    call: &Call,
+) -> Result<Option<Monomial>, ProductError>
+    requires { HasRoom front.term call.now }
+    ensures ok { IfOk result (λ m. product_of front (record { coefficient = number; term = function_factor call.now }) ≡ Ok m) }
+    ensures refused { (cause : Cause) → result ≡ Err (ProductError.Refused cause) →
+        product_of front (record { coefficient = number; term = function_factor call.now }) ≡ Err cause }
+{
+    front.laws();
+    let _ = call.pieces();
+    let Ok(coefficient) = front.coefficient.mul(number) else {
+        return Err(ProductError::Refused(Cause::Overflow));
+    };
+    let place = place_of(front.term.functions(), call);
+    let own = call.clone()?;
+    let Monomial { term, .. } = front;
+    let term = term.with_function(alloc, place, own)?;
+    Ok(Some(Monomial { coefficient, term }))
+}
+
+fn plain_onto(
+    alloc: Global,
+    front: Monomial,
+    factor: &Monomial,
+) -> Result<Option<Monomial>, ProductError>
+    requires front { IsPlain front.term }
+    requires factor { IsPlain factor.now.term }
+    ensures ok { IfOk result (λ m. product_of front factor.now ≡ Ok m) }
+    ensures refused { (cause : Cause) → result ≡ Err (ProductError.Refused cause) →
+        product_of front factor.now ≡ Err cause }
+{
+    let Ok(coefficient) = front.coefficient.mul(factor.coefficient) else {
+        return Err(ProductError::Refused(Cause::Overflow));
+    };
+    let term = plain_terms(alloc, front.term, &factor.term)?;
+    Ok(Some(Monomial { coefficient, term }))
+}
+
+fn plain_terms(alloc: Global, front: Term, factor: &Term) -> Result<Term, ProductError>
+    requires front { IsPlain front }
+    requires factor { IsPlain factor.now }
+    ensures ok { IfOk result (λ t. limited_of (term_product (front ∷ factor.now ∷ [])) ≡ Ok t) }
+    ensures refused { (cause : Cause) → result ≡ Err (ProductError.Refused cause) →
+        limited_of (term_product (front ∷ factor.now ∷ [])) ≡ Err cause }
+{
+    let (powers, mut others) = front.into_factors(alloc);
+    let powers = merged_onto(alloc, powers, factor.powers())?;
+    put_among(&mut others.functions, factor.functions())?;
+    limited(alloc, powers, others)
+}
+
+/// Puts copies of functions among others in their places.
+fn put_among(functions: &mut Vec<Call>, more: &[Call]) -> Result<(), AllocError>
+    requires { RisesBy call_order functions.old.items }
+    ensures { OnOk result (functions.new.items ≡ in_order call_order (functions.old.items ++ more.now)) }
+{
+    let mut rest = more;
+    while let Some((call, others)) = rest.split_first() {
+        let place = place_of(functions, call);
+        let own = call.clone()?;
+        functions.insert(place, own)?;
+        rest = others;
+    }
+    Ok(())
+}
+
+/// Whether a term is 1.
+fn is_number(term: &Term) -> bool
+    ensures { OnTrue result (term.now ≡ one) }
+{
+    term.has_only_symbols() && term.powers().is_empty()
+}
+
+/// The function that a term is, where it is one commuting function.
+fn lone_function(term: &Term) -> Option<&Call>
+    ensures { IfSome result (λ call. term.now ≡ function_factor call.now) }
+{
+    match term.functions() {
+        [call] if has_no_more(term) => Some(call),
+        _ => None,
+    }
+}
+
+/// Whether a term is a product of commuting functions alone.
+fn has_no_more(term: &Term) -> bool
+    ensures { OnTrue result (term.now ≡ of_others (record nothing { functions = term.now.others.functions })) }
+{
+    term.powers().is_empty() && is_plain(term)
+}
+
 /// Whether a function may be a further factor of a term as it stands.
 fn has_room(front: &Term, call: &Call) -> bool
     requires { size front.now ≤ largest_size }
@@ -134,15 +274,21 @@ fn has_room(front: &Term, call: &Call) -> bool
     true
 }
 
-/// How many of these functions are no higher than another, up to the first that is.
+/// How many of these functions are no higher than another. It looks from behind: most functions are declared later than
+/// those that stand there.
 fn place_of(calls: &[Call], call: &Call) -> usize
+    requires { RisesBy call_order calls.now }
     ensures within { result ≤ length calls.now }
     ensures place { result ≡ prefix_len (λ other. is_upto other call.now) calls.now }
 {
-    calls
-        .iter()
-        .take_while(|other| is_no_higher(other, call))
-        .count()
+    let mut rest = calls;
+    while let Some((last, others)) = rest.split_last() {
+        if is_no_higher(last, call) {
+            return rest.len();
+        }
+        rest = others;
+    }
+    0
 }
 
 fn is_no_higher(other: &Call, call: &Call) -> bool

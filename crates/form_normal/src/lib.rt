@@ -6,5 +6,7 @@ pub mod laws;
 mod merging;
 mod products;
 
-pub use factors::{multiply, multiply_by_number, multiply_by_power, times_function, times_word};
+pub use factors::{
+    multiply, multiply_by_number, multiply_by_power, product_onto, times_function, times_word,
+};
 pub use products::{ProductError, product};

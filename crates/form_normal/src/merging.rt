@@ -99,6 +99,23 @@ pub fn merged(alloc: Global, left: &[Power], right: &[Power]) -> Result<Vec<Powe
     Ok(powers)
 }
 
+/// The same where the first are the caller's own, which stay where they are if there are no others.
+pub fn merged_onto(
+    alloc: Global,
+    powers: Vec<Power>,
+    more: &[Power],
+) -> Result<Vec<Power>, AllocError>
+    requires left { IsProductive powers.items }
+    requires right { IsProductive more.now }
+    ensures { IfOk result (λ made. made.items
+        ≡ symbols_product (of_symbols powers.items ∷ of_symbols more.now ∷ [])) }
+{
+    if more.is_empty() {
+        return Ok(powers);
+    }
+    merged(alloc, &powers, more)
+}
+
 /// The product of two powers of one symbol.
 fn joined(left: Power, right: Power) -> Power
     requires left { nat_abs left.exponent ≤ largest_exponent }

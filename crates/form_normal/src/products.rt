@@ -1,17 +1,18 @@
 ghost use Rattle.std.specs.Prelude.{◌≡◌, ◌&&◌, ◌||◌, not, filter, [], ◌∷◌, ◌++◌, Ok, Err, IfOk};
+ghost use Rattle.std.specs.Bool.{OnTrue};
 ghost use Rattle.std.specs.List.{list_any};
 ghost use Rattle.form_base.specs.declared.cause.Cause.{Cause};
-ghost use Rattle.form_term.specs.Term.{IsTerm, RisesBy, of_symbols, delta_order};
+ghost use Rattle.form_term.specs.Term.{IsTerm, RisesBy, nothing, of_symbols, delta_order};
 ghost use Rattle.form_term.specs.Terms.{term};
 ghost use Rattle.form_normal.specs.Lists.{in_order as in_order_of};
 ghost use Rattle.form_term.specs.SymbolLaws.{ArePowers};
-ghost use Rattle.form_normal.specs.Factors.{AreJoined};
+ghost use Rattle.form_normal.specs.Factors.{AreJoined, IsPlain};
 ghost use Rattle.form_normal.specs.Product.{are_in_range as are_in_range_of, are_dots_in_range as are_dots_in_range_of, is_one as is_one_of, is_zero as is_zero_of, turned as turned_of, term_product, others_product, limited as limited_of, product_of};
 
 use crate::merging::{both, in_order, merged, merged_dots};
 use form_base::Cause;
 use form_frac::Frac;
-use form_term::{Delta, DotPower, Index, Monomial, Others, Power, Term};
+use form_term::{Call, Delta, DotPower, Index, Monomial, Others, Power, Term};
 use std::alloc::{AllocError, Global};
 
 /// The largest size of an exponent.
@@ -91,14 +92,14 @@ fn product_of_terms(alloc: Global, left: &Term, right: &Term) -> Result<Term, Pr
 {
     let powers = merged(alloc, left.powers(), right.powers())?;
     if left.has_only_symbols() && right.has_only_symbols() {
-        return limited_symbols(powers);
+        return limited_symbols(alloc, powers);
     }
     let others = product_of_others(alloc, left, right)?;
     limited(alloc, powers, others)
 }
 
 /// A term of powers of symbols alone, within the limits.
-fn limited_symbols(powers: Vec<Power>) -> Result<Term, ProductError>
+fn limited_symbols(alloc: Global, powers: Vec<Power>) -> Result<Term, ProductError>
     requires { ArePowers powers.items }
     ensures ok { IfOk result (λ t. limited_of (of_symbols powers.items) ≡ Ok t) }
     ensures refused { (cause : Cause) → result ≡ Err (ProductError.Refused cause) →
@@ -110,11 +111,15 @@ fn limited_symbols(powers: Vec<Power>) -> Result<Term, ProductError>
     if powers.len() > LARGEST_SIZE {
         return Err(ProductError::Refused(Cause::TermSize));
     }
-    Ok(Term::from_powers(powers))
+    Ok(Term::from_powers(alloc, powers))
 }
 
 /// A term within the limits. A product is no deeper than its factors.
-fn limited(alloc: Global, powers: Vec<Power>, others: Others) -> Result<Term, ProductError>
+pub(crate) fn limited(
+    alloc: Global,
+    powers: Vec<Power>,
+    others: Others,
+) -> Result<Term, ProductError>
     requires powers { ArePowers powers.items }
     requires others { AreJoined others }
     ensures ok { IfOk result (λ t. limited_of (term powers.items others) ≡ Ok t) }
@@ -147,8 +152,46 @@ fn are_dots_in_range(dots: &[DotPower]) -> bool
         .all(|dot| dot.exponent.unsigned_abs() <= LARGEST_EXPONENT)
 }
 
-/// The factors of a product besides powers of symbols.
+/// The factors of a product besides powers of symbols. In most there are functions alone.
 fn product_of_others(alloc: Global, left: &Term, right: &Term) -> Result<Others, AllocError>
+    requires left { IsTerm left.now }
+    requires right { IsTerm right.now }
+    ensures { IfOk result (λ o. o ≡ others_product (left.now ∷ right.now ∷ [])) }
+{
+    if is_plain(left) && is_plain(right) {
+        let functions = in_order(alloc, left.functions(), right.functions())?;
+        return Ok(functions_alone(alloc, functions));
+    }
+    product_of_all_others(alloc, left, right)
+}
+
+/// Whether a term has powers of symbols and commuting functions alone.
+pub(crate) fn is_plain(term: &Term) -> bool
+    ensures { OnTrue result (IsPlain term.now) }
+{
+    !term.is_imaginary()
+        && term.dots().is_empty()
+        && term.components().is_empty()
+        && term.deltas().is_empty()
+        && term.word().is_empty()
+}
+
+fn functions_alone(alloc: Global, functions: Vec<Call>) -> Others
+    ensures { result ≡ record nothing { functions = functions.items } }
+{
+    Others {
+        is_imaginary: false,
+        dots: Vec::new(alloc),
+        components: Vec::new(alloc),
+        deltas: Vec::new(alloc),
+        functions,
+        word: Vec::new(alloc),
+    }
+}
+
+/// The same where there may be factors of every kind, apart from the code that most products run through.
+#[inline(never)]
+fn product_of_all_others(alloc: Global, left: &Term, right: &Term) -> Result<Others, AllocError>
     requires left { IsTerm left.now }
     requires right { IsTerm right.now }
     ensures { IfOk result (λ o. o ≡ others_product (left.now ∷ right.now ∷ [])) }

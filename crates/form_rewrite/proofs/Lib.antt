@@ -3,5 +3,5 @@ pub mod Enough
 pub mod Fitting
 pub mod Going
 pub mod Lighter
-pub mod Only
 pub mod Options
+pub mod Ways

@@ -9,4 +9,4 @@ mod taken;
 mod weight;
 
 pub use take::take_out;
-pub use taken::{Cut, Cuts, Matches, Origin, Single, Taken};
+pub use taken::{Cut, Cuts, Matches, Origin, Single, Take, Taken};

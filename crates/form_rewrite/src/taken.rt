@@ -1,4 +1,5 @@
-ghost use Rattle.std.specs.Prelude.{◌≡◌, ◌∷◌, ◌++◌, [], IfErr, IfOk, OnErr, OnOk, length};
+ghost use Rattle.std.specs.Prelude.{◌≡◌, ◌∷◌, ◌++◌, [], IfOk, OnErr, OnOk, length};
+ghost use Rattle.form_rewrite.specs.Takes.{taken_in};
 ghost use Rattle.form_rewrite.specs.Taking.{taken_so_far};
 
 use form_match::Bindings;
@@ -108,22 +109,6 @@ impl Matches {
         let Matches { matches } = self;
         matches
     }
-
-    /// The bindings of the match, where there is one alone.
-    fn into_only(self) -> Result<Bindings, Matches>
-        ensures only { IfOk result (λ bindings. self ≡ bindings ∷ []) }
-        ensures same { IfErr result (λ matches. matches ≡ self) }
-    {
-        let Matches { matches } = self;
-        let mut matches = matches;
-        if matches.len() != 1 {
-            return Err(Matches { matches });
-        }
-        match matches.pop() {
-            Some(only) => Ok(only),
-            None => Err(Matches { matches }),
-        }
-    }
 }
 
 /// What a pattern took out of a term.
@@ -138,6 +123,32 @@ pub struct Taken {
     pub times: u32,
 }
 
+/// What comes of it where a pattern is tried on a term: in a clause `taken_in` says what was taken.
+#[derive(Drop)]
+pub enum Take {
+    /// The pattern doesn't match: the term as it was.
+    Untaken(Term),
+    /// One match, taken once, and no word is cut.
+    Single(Single),
+    Several(Taken),
+}
+
+impl Take {
+    /// What was taken, none where the pattern doesn't match.
+    pub fn into_taken(self, alloc: Global) -> Result<Option<Taken>, AllocError>
+        ensures { IfOk result (λ taken. taken ≡ taken_in self) }
+    {
+        match self {
+            Take::Untaken(_) => Ok(None),
+            Take::Single(single) => {
+                let taken = single.into_taken(alloc)?;
+                Ok(Some(taken))
+            }
+            Take::Several(taken) => Ok(Some(taken)),
+        }
+    }
+}
+
 /// What is left of a term, and what the wildcards of the one match stand for.
 #[derive(Drop)]
 pub struct Single {
@@ -145,34 +156,19 @@ pub struct Single {
     pub bindings: Bindings,
 }
 
-impl Taken {
-    /// The match, where there is one, taken once, and no word is cut; else all as it is.
-    pub fn into_single(self) -> Result<Single, Taken>
-        ensures single { IfOk result (λ one. self ≡ taken_so_far one.left [] (one.bindings ∷ []) 1) }
-        ensures same { IfErr result (λ taken. taken ≡ self) }
+impl Single {
+    /// The same as what was taken.
+    pub fn into_taken(self, alloc: Global) -> Result<Taken, AllocError>
+        ensures { IfOk result (λ taken. taken ≡ taken_so_far self.left [] (self.bindings ∷ []) 1) }
     {
-        let Taken {
+        let Single { left, bindings } = self;
+        let mut matches = Matches::new(alloc);
+        matches.push(bindings)?;
+        Ok(Taken {
             left,
-            cuts,
+            cuts: Cuts::from_vec(Vec::new(alloc)),
             matches,
-            times,
-        } = self;
-        if times != 1 || !cuts.as_slice().is_empty() {
-            return Err(Taken {
-                left,
-                cuts,
-                matches,
-                times,
-            });
-        }
-        match matches.into_only() {
-            Ok(bindings) => Ok(Single { left, bindings }),
-            Err(matches) => Err(Taken {
-                left,
-                cuts,
-                matches,
-                times,
-            }),
-        }
+            times: 1,
+        })
     }
 }

@@ -1,19 +1,29 @@
 -- What the factors of a term are, as it keeps them.
-use Rattle.std.specs.Prelude.{◌≡◌, List, false}
-use Rattle.form_term.specs.declared.power.Power.{Power}
-use Rattle.form_term.specs.declared.term.Factors.{Factors}
-use Rattle.form_term.specs.declared.term.Factors.TheVariants.{Symbols, Mixed}
-use Rattle.form_term.specs.Term.{Others, nothing, is_nothing}
+use Rattle.std.specs.Prelude.{◌≡◌, List, [], Option, Some, None, Box, false}
+use Rattle.std.specs.Global.{Global}
+use Rattle.form_term.specs.declared.term.Rest.{Rest}
+use Rattle.form_term.specs.Term.{Call, Others, nothing, is_nothing}
 
-abbrev pub symbols_in : Factors → List Power
-symbols_in (Symbols ps) = ps.items
-symbols_in (Mixed m) = m.value.symbols.items
+-- the factors besides powers of symbols and commuting functions
+abbrev pub others_of : Rest → Others
+others_of r = record {
+  is_imaginary = r.is_imaginary;
+  dots = r.dots.items;
+  components = r.components.items;
+  deltas = r.deltas.items;
+  functions = [];
+  word = r.word.items;
+}
 
-abbrev pub others_in : Factors → Others
-others_in (Symbols ps) = nothing
-others_in (Mixed m) = m.value.others
+-- they are kept only where there are some
+abbrev pub rest_in : Option (Box Rest Global) → Others
+rest_in None = nothing
+rest_in (Some r) = others_of r.value
 
--- others are kept only where there are some
-abbrev pub HasOthers : Factors → Type 0
-HasOthers (Symbols ps) = Unit {0}
-HasOthers (Mixed m) = is_nothing m.value.others ≡ false
+abbrev pub HasRest : Option (Box Rest Global) → Type 0
+HasRest None = Unit {0}
+HasRest (Some r) = is_nothing (others_of r.value) ≡ false
+
+-- the factors besides powers of symbols
+abbrev pub others_in : List Call → Option (Box Rest Global) → Others
+others_in fs rest = record (rest_in rest) { functions = fs }

@@ -1,5 +1,5 @@
 -- What the pieces of a function's arguments feed to a hasher.
-use Rattle.std.specs.Prelude.{ℕ, ◌+◌, ◌*◌, ◌^◌, ◌==◌, List, [], ◌∷◌, ◌++◌, if◌then◌else◌}
+use Rattle.std.specs.Prelude.{ℕ, ◌+◌, ◌*◌, ◌^◌, ◌==◌, List, [], ◌++◌, if◌then◌else◌}
 use Rattle.std.specs.Int.{w32, cast_unsigned}
 use Rattle.std.specs.Hash as fed
 use Rattle.form_term.specs.declared.power.Power.{Power}

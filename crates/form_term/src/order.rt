@@ -67,9 +67,19 @@ fn compare_powers(left: Power, right: Power) -> Ordering
 fn compare_others(left: &Term, right: &Term) -> Ordering
     ensures { result ≡ others_order left.now.others right.now.others }
 {
-    if left.has_only_symbols() && right.has_only_symbols() {
-        return Ordering::Equal;
+    if left.has_rest() {
+        return compare_all(left, right);
     }
+    if right.has_rest() {
+        return compare_all(left, right);
+    }
+    left.functions().cmp(&right.functions())
+}
+
+/// The same, where more than commuting functions may be there.
+fn compare_all(left: &Term, right: &Term) -> Ordering
+    ensures { result ≡ others_order left.now.others right.now.others }
+{
     let dots = compare_dots(left.dots(), right.dots());
     let components = left.components().cmp(&right.components());
     let deltas = left.deltas().cmp(&right.deltas());

@@ -1,5 +1,6 @@
-ghost use Rattle.std.specs.Prelude.{◌≡◌, ◌<◌, ◌^◌, sum, map};
+ghost use Rattle.std.specs.Prelude.{◌≡◌, ◌<◌, ◌^◌, sum, map, not};
 ghost use Rattle.form_term.specs.Term.{nothing, is_nothing, size_of_call, size_of_others, depth_of_calls as depth_of, depth_of_others};
+ghost use Rattle.form_term.specs.Terms.{rest_of};
 
 use crate::{Call, Component, Delta, DotPower};
 use std::alloc::{AllocError, Global};
@@ -61,6 +62,17 @@ impl Others {
             && self.word.is_empty()
     }
 
+    /// Whether there are more than commuting functions.
+    pub(crate) fn has_rest(&self) -> bool
+        ensures { result ≡ not (is_nothing (rest_of self.now)) }
+    {
+        self.is_imaginary
+            || !self.dots.is_empty()
+            || !self.components.is_empty()
+            || !self.deltas.is_empty()
+            || !self.word.is_empty()
+    }
+
     /// How many factors they are, those inside arguments counted.
     pub fn size(&self) -> usize
         requires { size_of_others self.now < 2 ^ 32 }
@@ -82,7 +94,7 @@ impl Others {
 }
 
 /// How many factors these functions are, those inside their arguments counted.
-fn size_of_calls(calls: &[Call]) -> usize
+pub(crate) fn size_of_calls(calls: &[Call]) -> usize
     requires { sum (map size_of_call calls.now) < 2 ^ 32 }
     ensures { result ≡ sum (map size_of_call calls.now) }
 {
@@ -94,7 +106,7 @@ fn size_of_calls(calls: &[Call]) -> usize
 }
 
 /// The depth of the deepest term in an argument of these functions, 0 without one.
-fn depth_of_calls(calls: &[Call]) -> usize
+pub(crate) fn depth_of_calls(calls: &[Call]) -> usize
     ensures { result ≡ depth_of calls.now }
 {
     let mut depth: usize = 0;

@@ -1,5 +1,5 @@
 //! Reading a function's arguments from their pieces.
-ghost use Rattle.std.specs.Prelude.{◌≡◌, ◌≤◌, ◌<◌, ◌-◌, ◌++◌, pos, List, [], ◌∷◌, length, take, drop, map, All, IfOk, IfSome, OnOk};
+ghost use Rattle.std.specs.Prelude.{◌≡◌, ◌≤◌, ◌<◌, ◌-◌, ◌++◌, pos, List, [], ◌∷◌, length, take, drop, map, All, IfOk, IfSome, OnOk, option_map};
 ghost use Rattle.form_frac.specs.Fraction.{IsLowest, largest, make};
 ghost use Rattle.form_term.specs.declared.piece.Piece.{Piece};
 ghost use Rattle.form_term.specs.declared.piece.Piece.TheVariants as marks;
@@ -65,6 +65,8 @@ pub fn number_in(pieces: &[Piece]) -> Option<Frac>
     ensures terms { IfSome result (λ number. map as_monomial (first_summands (arguments_of pieces.now))
         ≡ record { coefficient = number; term = terms.one } ∷ []) }
     ensures lowest { IfSome result IsLowest }
+    ensures exactly { option_map (λ q. record { numerator = q.numerator; denominator = q.denominator }) result
+        ≡ coefficient_of pieces.now }
 {
     match coefficient_in(pieces) {
         Some(coefficient) => Some(number(coefficient)),

@@ -1,8 +1,10 @@
-ghost use Rattle.std.specs.Prelude.{◌≡◌, ◌≤◌, ◌++◌, [], ◌∷◌, nat_abs, length, fold, IfOk, OnOk, OnErr};
-ghost use Rattle.form_term.specs.Feeding.{fed_others};
-ghost use Rattle.form_term.specs.Term.{IsTerm, nothing, is_nothing, one, of_symbols, of_others, symbol_power, largest_exponent, size, depth};
-ghost use Rattle.form_term.specs.Terms.{term, function_put, word_put};
+ghost use Rattle.std.specs.Prelude.{◌≡◌, ◌<◌, ◌≤◌, ◌^◌, ◌++◌, [], ◌∷◌, nat_abs, length, false, not, fold, IfOk, OnOk, OnErr};
+ghost use Rattle.form_term.specs.Factors.{others_of, rest_in, HasRest};
+ghost use Rattle.form_term.specs.Feeding.{fed_rest};
+ghost use Rattle.form_term.specs.Term.{IsTerm, nothing, is_nothing, one, of_symbols, symbol_power, largest_exponent, size, size_of_others, depth, depth_of_others};
+ghost use Rattle.form_term.specs.Terms.{term, rest_of, function_put, word_put};
 
+use crate::others::{depth_of_calls, size_of_calls};
 use crate::{Call, Component, Delta, DotPower, Others, Power, compare};
 use form_base::Id;
 use std::alloc::{AllocError, Global};
@@ -11,37 +13,37 @@ use std::hash::{Hash, Hasher};
 use std::marker::Model;
 
 /// A term: a product of powers of symbols and of other factors. It has the symbols whose exponent isn't 0, in order of
-/// declaration. A term of symbols alone takes no memory for the rest, and has four words.
+/// declaration. A term of symbols and commuting functions alone takes no memory for the rest.
 #[derive(Debug, Drop)]
 pub struct Term {
-    factors: Factors,
-}
-
-/// The factors of a term.
-#[derive(Debug, Drop)]
-enum Factors {
-    /// Powers of symbols alone.
-    Symbols(Vec<Power>),
-    /// Powers of symbols, and others, of which there are some.
-    Mixed(Box<Mixed>),
-}
-
-#[derive(Debug, Drop)]
-struct Mixed {
     symbols: Vec<Power>,
-    others: Others,
+    functions: Vec<Call>,
+    rest: Option<Box<Rest>>,
 }
+
+/// The factors besides powers of symbols and commuting functions, of which there are some.
+#[derive(Debug, Drop)]
+struct Rest {
+    is_imaginary: bool,
+    dots: Vec<DotPower>,
+    components: Vec<Component>,
+    deltas: Vec<Delta>,
+    word: Vec<Call>,
+}
+
+/// For how many powers there is room at first.
+const FIRST_ROOM: usize = 6;
 
 impl Model for Term {
     ghost use Rattle.form_term.specs.Term as terms;
-    ghost use Rattle.form_term.specs.Factors.{symbols_in, others_in, HasOthers};
+    ghost use Rattle.form_term.specs.Factors.{others_in, HasRest};
     ghost use Rattle.form_term.specs.Terms.{term};
 
     ghost Value = { terms.Term };
 
-    ghost view = { λ t. term (symbols_in t.factors) (others_in t.factors) };
+    ghost view = { λ t. term t.symbols.items (others_in t.functions.items t.rest) };
 
-    ghost invariant = { λ t. terms.IsTerm (term (symbols_in t.factors) (others_in t.factors)) × HasOthers t.factors };
+    ghost invariant = { λ t. terms.IsTerm (term t.symbols.items (others_in t.functions.items t.rest)) × HasRest t.rest };
 }
 
 impl Term {
@@ -50,7 +52,9 @@ impl Term {
         ensures { result ≡ one }
     {
         Term {
-            factors: Factors::Symbols(Vec::new(alloc)),
+            symbols: Vec::new(alloc),
+            functions: Vec::new(alloc),
+            rest: None,
         }
     }
 
@@ -65,16 +69,18 @@ impl Term {
         }
         let mut powers = Vec::new(alloc);
         powers.push(Power { symbol, exponent })?;
-        Ok(Term::from_powers(powers))
+        Ok(Term::from_powers(alloc, powers))
     }
 
     /// The product of these powers, in order of declaration of their symbols.
-    pub fn from_powers(powers: Vec<Power>) -> Term
+    pub fn from_powers(alloc: Global, powers: Vec<Power>) -> Term
         requires { IsTerm (of_symbols powers.items) }
         ensures { result ≡ of_symbols powers.items }
     {
         Term {
-            factors: Factors::Symbols(powers),
+            symbols: powers,
+            functions: Vec::new(alloc),
+            rest: None,
         }
     }
 
@@ -87,16 +93,43 @@ impl Term {
         requires { IsTerm (term powers.items others) }
         ensures { IfOk result (λ t. t ≡ term powers.items others) }
     {
-        if others.is_none() {
-            return Ok(Term::from_powers(powers));
+        if others.has_rest() {
+            return Term::with_rest(alloc, powers, others);
         }
-        let mixed = Mixed {
-            symbols: powers,
-            others,
-        };
-        let mixed = Box::new(alloc, mixed).map_err(|_| AllocError)?;
+        let Others { functions, .. } = others;
         Ok(Term {
-            factors: Factors::Mixed(mixed),
+            symbols: powers,
+            functions,
+            rest: None,
+        })
+    }
+
+    /// The same, where there are more than commuting functions.
+    fn with_rest(alloc: Global, powers: Vec<Power>, others: Others) -> Result<Term, AllocError>
+        requires lawful { IsTerm (term powers.items others) }
+        requires there { is_nothing (rest_of others) ≡ false }
+        ensures { IfOk result (λ t. t ≡ term powers.items others) }
+    {
+        let Others {
+            is_imaginary,
+            dots,
+            components,
+            deltas,
+            functions,
+            word,
+        } = others;
+        let rest = Rest {
+            is_imaginary,
+            dots,
+            components,
+            deltas,
+            word,
+        };
+        let rest = Box::new(alloc, rest).map_err(|_| AllocError)?;
+        Ok(Term {
+            symbols: powers,
+            functions,
+            rest: Some(rest),
         })
     }
 
@@ -106,10 +139,10 @@ impl Term {
         ensures pushed { OnOk result (self.new ≡ term (self.old.symbols ++ power ∷ []) self.old.others) }
         ensures same { OnErr result (self.new ≡ self.old) }
     {
-        match &mut self.factors {
-            Factors::Symbols(powers) => powers.push(power)?,
-            Factors::Mixed(mixed) => mixed.symbols.push(power)?,
+        if self.symbols.is_empty() {
+            self.symbols.reserve_exact(FIRST_ROOM)?;
         }
+        self.symbols.push(power)?;
         Ok(())
     }
 
@@ -119,20 +152,18 @@ impl Term {
         requires lawful { IsTerm (function_put place call self) }
         ensures { IfOk result (λ t. t ≡ function_put place call self) }
     {
-        let Term { factors } = self;
-        match factors {
-            Factors::Symbols(symbols) => {
-                let mut others = Others::none(alloc);
-                others.functions.push(call)?;
-                Term::from_factors(alloc, symbols, others)
-            }
-            Factors::Mixed(mut mixed) => {
-                mixed.others.functions.insert(place, call)?;
-                Ok(Term {
-                    factors: Factors::Mixed(mixed),
-                })
-            }
-        }
+        let _ = alloc;
+        let Term {
+            symbols,
+            mut functions,
+            rest,
+        } = self;
+        functions.insert(place, call)?;
+        Ok(Term {
+            symbols,
+            functions,
+            rest,
+        })
     }
 
     /// It times a non-commuting function.
@@ -140,20 +171,18 @@ impl Term {
         requires { IsTerm (word_put call self) }
         ensures { IfOk result (λ t. t ≡ word_put call self) }
     {
-        let Term { factors } = self;
-        match factors {
-            Factors::Symbols(symbols) => {
-                let mut others = Others::none(alloc);
-                others.word.push(call)?;
-                Term::from_factors(alloc, symbols, others)
-            }
-            Factors::Mixed(mut mixed) => {
-                mixed.others.word.push(call)?;
-                Ok(Term {
-                    factors: Factors::Mixed(mixed),
-                })
-            }
-        }
+        let Term {
+            symbols,
+            functions,
+            rest,
+        } = self;
+        let mut rest = in_memory(alloc, rest)?;
+        rest.word.push(call)?;
+        Ok(Term {
+            symbols,
+            functions,
+            rest: Some(rest),
+        })
     }
 
     /// The symbols whose exponent isn't 0, in order of declaration.
@@ -161,26 +190,30 @@ impl Term {
         ensures powers { result.now ≡ self.now.symbols }
         ensures lawful { IsTerm self.now }
     {
-        match &self.factors {
-            Factors::Symbols(powers) => powers,
-            Factors::Mixed(mixed) => &mixed.symbols,
-        }
+        &self.symbols
     }
 
     /// Whether there are no other factors than powers of symbols.
     pub fn has_only_symbols(&self) -> bool
         ensures { result ≡ is_nothing self.now.others }
     {
-        matches!(self.factors, Factors::Symbols(_))
+        self.functions.is_empty() && self.rest.is_none()
+    }
+
+    /// Whether there are other factors than powers of symbols and commuting functions.
+    pub(crate) fn has_rest(&self) -> bool
+        ensures { result ≡ not (is_nothing (rest_of self.now.others)) }
+    {
+        self.rest.is_some()
     }
 
     /// Whether the exponent of `i_` is 1.
     pub fn is_imaginary(&self) -> bool
         ensures { result ≡ self.now.others.is_imaginary }
     {
-        match &self.factors {
-            Factors::Symbols(_) => false,
-            Factors::Mixed(mixed) => mixed.others.is_imaginary,
+        match &self.rest {
+            None => false,
+            Some(rest) => rest.is_imaginary,
         }
     }
 
@@ -188,27 +221,27 @@ impl Term {
     pub fn dots(&self) -> &[DotPower]
         ensures { result.now ≡ self.now.others.dots }
     {
-        match &self.factors {
-            Factors::Symbols(_) => &[],
-            Factors::Mixed(mixed) => &mixed.others.dots,
+        match &self.rest {
+            None => &[],
+            Some(rest) => &rest.dots,
         }
     }
 
     pub fn components(&self) -> &[Component]
         ensures { result.now ≡ self.now.others.components }
     {
-        match &self.factors {
-            Factors::Symbols(_) => &[],
-            Factors::Mixed(mixed) => &mixed.others.components,
+        match &self.rest {
+            None => &[],
+            Some(rest) => &rest.components,
         }
     }
 
     pub fn deltas(&self) -> &[Delta]
         ensures { result.now ≡ self.now.others.deltas }
     {
-        match &self.factors {
-            Factors::Symbols(_) => &[],
-            Factors::Mixed(mixed) => &mixed.others.deltas,
+        match &self.rest {
+            None => &[],
+            Some(rest) => &rest.deltas,
         }
     }
 
@@ -216,20 +249,45 @@ impl Term {
     pub fn functions(&self) -> &[Call]
         ensures { result.now ≡ self.now.others.functions }
     {
-        match &self.factors {
-            Factors::Symbols(_) => &[],
-            Factors::Mixed(mixed) => &mixed.others.functions,
-        }
+        &self.functions
     }
 
     /// The non-commuting functions, as they are written.
     pub fn word(&self) -> &[Call]
         ensures { result.now ≡ self.now.others.word }
     {
-        match &self.factors {
-            Factors::Symbols(_) => &[],
-            Factors::Mixed(mixed) => &mixed.others.word,
+        match &self.rest {
+            None => &[],
+            Some(rest) => &rest.word,
         }
+    }
+
+    /// The powers of its symbols, and its other factors.
+    pub fn into_factors(self, alloc: Global) -> (Vec<Power>, Others)
+        ensures is { self ≡ term result.0.items result.1 }
+        ensures lawful { IsTerm self }
+    {
+        let Term {
+            symbols,
+            functions,
+            rest,
+        } = self;
+        let Rest {
+            is_imaginary,
+            dots,
+            components,
+            deltas,
+            word,
+        } = taken_out(alloc, rest);
+        let others = Others {
+            is_imaginary,
+            dots,
+            components,
+            deltas,
+            functions,
+            word,
+        };
+        (symbols, others)
     }
 
     /// How many factors it has, those inside arguments counted: a power, a component and a delta are one each, and a
@@ -237,20 +295,76 @@ impl Term {
     pub fn size(&self) -> usize
         ensures { result ≡ size self.now }
     {
-        match &self.factors {
-            Factors::Symbols(powers) => powers.len(),
-            Factors::Mixed(mixed) => mixed.symbols.len() + mixed.others.size(),
-        }
+        self.symbols.len() + size_of_calls(&self.functions) + size_of_rest(&self.rest)
     }
 
     /// 1, or one more than the depth of the deepest term in an argument.
     pub fn depth(&self) -> usize
         ensures { result ≡ depth self.now }
     {
-        match &self.factors {
-            Factors::Symbols(_) => 1,
-            Factors::Mixed(mixed) => 1 + mixed.others.depth(),
+        1 + depth_of_calls(&self.functions).max(depth_of_rest(&self.rest))
+    }
+}
+
+impl Rest {
+    fn none(alloc: Global) -> Rest
+        ensures { others_of result ≡ nothing }
+    {
+        Rest {
+            is_imaginary: false,
+            dots: Vec::new(alloc),
+            components: Vec::new(alloc),
+            deltas: Vec::new(alloc),
+            word: Vec::new(alloc),
         }
+    }
+
+    fn size(&self) -> usize
+        requires { size_of_others (others_of self.now) < 2 ^ 32 }
+        ensures { result ≡ size_of_others (others_of self.now) }
+    {
+        self.dots.len() + self.components.len() + self.deltas.len() + size_of_calls(&self.word)
+    }
+}
+
+/// Factors in memory of their own, even where there are none.
+fn in_memory(alloc: Global, rest: Option<Box<Rest>>) -> Result<Box<Rest>, AllocError>
+    ensures { IfOk result (λ kept. others_of kept.value ≡ rest_in rest) }
+{
+    match rest {
+        Some(rest) => Ok(rest),
+        None => Box::new(alloc, Rest::none(alloc)).map_err(|_| AllocError),
+    }
+}
+
+/// Factors out of their memory.
+fn taken_out(alloc: Global, rest: Option<Box<Rest>>) -> Rest
+    ensures { others_of result ≡ rest_in rest }
+{
+    match rest {
+        Some(rest) => Box::into_inner(rest),
+        None => Rest::none(alloc),
+    }
+}
+
+/// How many factors these are, those inside arguments counted.
+fn size_of_rest(rest: &Option<Box<Rest>>) -> usize
+    requires { size_of_others (rest_in rest.now) < 2 ^ 32 }
+    ensures { result ≡ size_of_others (rest_in rest.now) }
+{
+    match rest {
+        Some(rest) => rest.size(),
+        None => 0,
+    }
+}
+
+/// The depth of the deepest term in an argument of these, 0 without one.
+fn depth_of_rest(rest: &Option<Box<Rest>>) -> usize
+    ensures { result ≡ depth_of_others (rest_in rest.now) }
+{
+    match rest {
+        Some(rest) => depth_of_calls(&rest.word),
+        None => 0,
     }
 }
 
@@ -260,33 +374,46 @@ impl Clone for Term {
     ghost is_clone = { λ t u. u ≡ t };
 
     fn clone(&self) -> Result<Term, AllocError> {
-        let factors = match &self.factors {
-            Factors::Symbols(powers) => Factors::Symbols(powers.clone()?),
-            Factors::Mixed(mixed) => Factors::Mixed(copied(mixed)?),
-        };
-        Ok(Term { factors })
+        Ok(Term {
+            symbols: self.symbols.clone()?,
+            functions: self.functions.clone()?,
+            rest: copied(&self.rest)?,
+        })
     }
 }
 
-impl Clone for Mixed {
+impl Clone for Rest {
     ghost use Rattle.std.specs.Prelude.{◌≡◌};
+    ghost use Rattle.form_term.specs.Factors.{others_of};
 
-    ghost is_clone = { λ m n. (n.symbols.items ≡ m.symbols.items) × (n.others ≡ m.others) };
+    ghost is_clone = { λ r s. others_of s ≡ others_of r };
 
-    fn clone(&self) -> Result<Mixed, AllocError> {
-        Ok(Mixed {
-            symbols: self.symbols.clone()?,
-            others: self.others.clone()?,
+    fn clone(&self) -> Result<Rest, AllocError> {
+        Ok(Rest {
+            is_imaginary: self.is_imaginary,
+            dots: self.dots.clone()?,
+            components: self.components.clone()?,
+            deltas: self.deltas.clone()?,
+            word: self.word.clone()?,
         })
     }
 }
 
 /// A copy in memory of its own.
-fn copied(mixed: &Box<Mixed>) -> Result<Box<Mixed>, AllocError>
-    ensures symbols { IfOk result (λ copy. copy.value.symbols.items ≡ mixed.now.value.symbols.items) }
-    ensures others { IfOk result (λ copy. copy.value.others ≡ mixed.now.value.others) }
+fn copied(rest: &Option<Box<Rest>>) -> Result<Option<Box<Rest>>, AllocError>
+    ensures is { IfOk result (λ copy. rest_in copy ≡ rest_in rest.now) }
+    ensures some { HasRest rest.now → IfOk result HasRest }
 {
-    mixed.clone()
+    match rest {
+        Some(rest) => Ok(Some(copy_of(rest)?)),
+        None => Ok(None),
+    }
+}
+
+fn copy_of(rest: &Box<Rest>) -> Result<Box<Rest>, AllocError>
+    ensures { IfOk result (λ copy. others_of copy.value ≡ others_of rest.now.value) }
+{
+    rest.clone()
 }
 
 impl PartialEq for Term {
@@ -322,19 +449,22 @@ impl Hash for Term {
 
     fn hash<H: Hasher>(&self, state: &mut H) {
         self.powers().hash(state);
-        if let Factors::Mixed(mixed) = &self.factors {
-            feed(&mixed.others, state);
+        if self.has_only_symbols() {
+            return;
+        }
+        self.functions().hash(state);
+        if self.has_rest() {
+            feed_rest(self, state);
         }
     }
 }
 
-/// Feeds the factors besides powers of symbols to a hasher, `i_` apart.
-fn feed<H: Hasher>(others: &Others, state: &mut H)
-    ensures { state.new ≡ fold H.write state.old (fed_others others.now) }
+/// Feeds the factors besides `i_`, powers of symbols and commuting functions to a hasher.
+fn feed_rest<H: Hasher>(term: &Term, state: &mut H)
+    ensures { state.new ≡ fold H.write state.old (fed_rest term.now.others) }
 {
-    others.dots.as_slice().hash(state);
-    others.components.as_slice().hash(state);
-    others.deltas.as_slice().hash(state);
-    others.functions.as_slice().hash(state);
-    others.word.as_slice().hash(state);
+    term.dots().hash(state);
+    term.components().hash(state);
+    term.deltas().hash(state);
+    term.word().hash(state);
 }

@@ -264,7 +264,8 @@ fn found_in(alloc: Global, term: &Term) -> Result<Option<Findings>, AllocError> 
     let pattern = form_match::Pattern::new(alloc, &pieces, Vec::new(alloc))?;
     let by_match = first_match(alloc, &pattern, term)?;
     let by_place = first_of(alloc, &pattern, term, &[], false)?;
-    let taken = take_out(alloc, term, &[], &pattern, None)?;
+    let take = take_out(alloc, term.clone()?, &[], &pattern, None)?;
+    let taken = take.into_taken(alloc)?;
     match (by_match, by_place, taken) {
         (Some(by_match), Some(by_place), Some(taken)) => Ok(Some((
             bound(&by_match.bindings),

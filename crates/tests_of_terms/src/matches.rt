@@ -146,7 +146,7 @@ fn power(alloc: Global, exponent: i32, power: i64, exact: bool) -> Result<Option
     let term = Term::symbol(alloc, id(0), exponent)?;
     match first_of(alloc, &pattern, &term, &[], exact)? {
         Some(found) => {
-            let left = left_of(alloc, &term, found.takes.as_slice())?;
+            let left = left_of(alloc, term.clone()?, found.takes.as_slice())?;
             match left.powers() {
                 [one] => Ok(Some(one.exponent)),
                 _ => Ok(Some(0)),
@@ -179,7 +179,7 @@ fn stretch(alloc: Global) -> Result<Option<(u32, u32, usize)>, AllocError> {
     let Some(found) = first_match(alloc, &pattern, &term)? else {
         return Ok(None);
     };
-    let left = left_of(alloc, &term, found.takes.as_slice())?;
+    let left = left_of(alloc, term.clone()?, found.takes.as_slice())?;
     match found.takes.as_slice() {
         [Use::Stretch(start, len)] => Ok(Some((*start, *len, left.word().len()))),
         _ => Ok(None),

@@ -4,7 +4,8 @@ ghost use Rattle.form_term.specs.Term.{largest_exponent};
 use form_base::{Cause, Id};
 use form_frac::Frac;
 use form_normal::{
-    ProductError, multiply_by_number, multiply_by_power, product, times_function, times_word,
+    ProductError, multiply_by_number, multiply_by_power, product, product_onto, times_function,
+    times_word,
 };
 use form_term::{Arguments, Call, Component, Delta, Index, Monomial, Power, Term, compare};
 use std::alloc::{AllocError, Global};
@@ -165,6 +166,60 @@ fn functions_are_put_in_their_order(rt: HostRuntime) -> Result<(), Fail> {
         function(alloc, 7, 1, false)?,
     )?;
     assert!(rt; are_equal(word, product));
+    Ok(())
+}
+
+/// 3 times a function.
+fn thrice(alloc: Global) -> Result<Monomial, AllocError> {
+    let function = function(alloc, 7, 1, true)?;
+    Ok(Monomial {
+        coefficient: Frac::whole(3),
+        term: function.term,
+    })
+}
+
+/// A power times that function, made onto the power.
+fn onto_power(alloc: Global) -> Result<Monomial, Fail> {
+    let factor = thrice(alloc)?;
+    Ok(made(product_onto(alloc, power(alloc, 1, 1)?, &factor)).ok_or("no product")?)
+}
+
+#[test]
+fn a_function_is_put_with_its_coefficient(rt: HostRuntime) -> Result<(), Fail> {
+    let alloc = rt.alloc();
+    let product = times(alloc, power(alloc, 1, 1)?, thrice(alloc)?)?;
+    assert!(rt; is(onto_power(alloc)?, Frac::whole(6), product.term));
+    Ok(())
+}
+
+/// A power times a function.
+fn front(alloc: Global) -> Result<Monomial, Fail> {
+    let function = function(alloc, 7, 1, true)?;
+    Ok(times(alloc, power(alloc, 1, 1)?, function)?)
+}
+
+/// A power times two functions.
+fn factor(alloc: Global, low: u32, high: u32) -> Result<Monomial, Fail> {
+    let low = function(alloc, low, 1, true)?;
+    let high = function(alloc, high, 2, true)?;
+    Ok(times(alloc, power(alloc, 0, 2)?, times(alloc, high, low)?)?)
+}
+
+/// Whether such a product is the same, made onto the front.
+fn is_made_onto(alloc: Global, low: u32, high: u32) -> Result<bool, Fail> {
+    let product = times(alloc, front(alloc)?, factor(alloc, low, high)?)?;
+    let factor = factor(alloc, low, high)?;
+    let onto = made(product_onto(alloc, front(alloc)?, &factor)).ok_or("no product")?;
+    Ok(is(onto, Frac::whole(4), product.term))
+}
+
+#[test]
+fn functions_are_put_among_those_of_a_front(rt: HostRuntime) -> Result<(), Fail> {
+    let alloc = rt.alloc();
+    assert!(rt; is_made_onto(alloc, 6, 8)?);
+    assert!(rt; is_made_onto(alloc, 7, 7)?);
+    assert!(rt; is_made_onto(alloc, 5, 6)?);
+    assert!(rt; is_made_onto(alloc, 8, 9)?);
     Ok(())
 }
 

@@ -17,7 +17,8 @@ fn of_powers(
     pieces.push(PatternPiece::Symbol(Name::Itself(Id::new(0)), -2))?;
     let pattern = Pattern::new(alloc, &pieces, Vec::new(alloc))?;
     let term = Term::symbol(alloc, Id::new(0), -7)?;
-    match take_out(alloc, &term, &[], &pattern, option)? {
+    let take = take_out(alloc, term, &[], &pattern, option)?;
+    match take.into_taken(alloc)? {
         Some(taken) => Ok(numbers(&taken)),
         None => Ok(None),
     }
@@ -53,7 +54,8 @@ fn of_word(alloc: Global) -> Result<Option<Taken>, AllocError> {
         return Err(AllocError);
     }
     let term = Term::non_commuting(alloc, call)?;
-    take_out(alloc, &term, &[0, 1], &pattern, None)
+    let take = take_out(alloc, term, &[0, 1], &pattern, None)?;
+    take.into_taken(alloc)
 }
 
 /// Whether all three cuts are in one place, the new one between those that were given.

@@ -3,16 +3,17 @@ use Rattle.std.proofs.lemmas.Int.{to_z-of_z}
 use Rattle.std.specs.Prelude.{Ok}
 use Rattle.std.proofs.lemmas.List.{nil_from_length}
 use Rattle.form_term.specs.Term.{index, vector, pieces_of_argument}
-use Rattle.form_expand.specs.Listing.{limited}
+use Rattle.form_expand.specs.Listing.{limited, followed}
 use Rattle.form_expand.specs.Literals.{IsTimes}
 use Rattle.form_expand.specs.Numbers.{number_list, symbol_list}
 use Rattle.form_expand.specs.Pieces.{list_of_piece}
 use Rattle.form_expand.specs.Reading.{list_of_pieces}
 use Rattle.form_expand.specs.Singles.{list_of_call}
+use Rattle.form_expand.specs.Walks.{all_of}
 use Rattle.form_expand.proofs.Called.{opens, index_read, vector_read, field_read, expression_ended, expression_read}
 use Rattle.form_expand.proofs.LiteralCalls.{none_argued, one_argued, all_argued, sum_argued, collected_kept}
 use Rattle.form_expand.proofs.Literals.{IsReadTo, first_taken, next_taken, literal_read, taken_behind, taken_wild, call_taken_from, within_taken, ends_within}
-use Rattle.form_expand.proofs.LiteralSums.{sum_begun, sum_more, sum_read}
+use Rattle.form_expand.proofs.LiteralSums.{sum_more, sum_done, sum_alone}
 use Rattle.form_expand.proofs.Lones.{lone_put}
 use Rattle.form_expand.proofs.Parenthesized.{ends_here, ends_empty, drop_next}
 use Rattle.form_expand.proofs.+literal.Goals as goal
@@ -172,8 +173,8 @@ literal_arguments::read_sum-returns t c =
       shorter = omega (arith, c.split_at.ensures.back_len, c.split_at-2.ensures.back_len);
     }
 
-pub literal_sum::literal_terms-loop-rest-init : goal.literal_sum::literal_terms-loop-rest-init
-literal_sum::literal_terms-loop-rest-init t c = sum_begun c.args.limit c.args.names.now c.args.pieces.now c.in_ok-terms.terms.items c.in_ok-terms.ensures.items
+pub literal_arguments::few_terms-returns : goal.literal_arguments::few_terms-returns
+literal_arguments::few_terms-returns t c = sum_alone c.args.limit c.args.names.now c.literal_terms.result c.args.pieces.now c.new.result.items c.new.ensures.items c.literal_terms.ensures
 
 pub literal_sum::literal_terms-loop-rest-smaller : goal.literal_sum::literal_terms-loop-rest-smaller
 literal_sum::literal_terms-loop-rest-smaller t c = (rw c.in-Some.is at c.in_ok-literal.ensures).shorter
@@ -182,13 +183,15 @@ pub literal_sum::literal_terms-loop-rest-preserved : goal.literal_sum::literal_t
 literal_sum::literal_terms-loop-rest-preserved t c =
     let max = c.args.limit in
     let all = c.args.names.now in
-    let terms = c.loop-rest.terms.items in
-    sum_more max all (limited max (list_of_pieces max all c.args.pieces.now)) terms c.push.new.self.items c.loop-rest.rest.now c.in-Some.behind.now c.in-Some.literal (rw c.in-Some.is at c.in_ok-literal.ensures) c.loop-rest.invariant
-    (c.in_ok-push.ensures.items ∙ ap (λ m. terms ++ m ∷ []) c.into_term.ensures)
+    let made = c.loop-rest.made.items in
+    sum_more max all (limited max (followed (all_of c.args.terms.items) (list_of_pieces max all c.args.pieces.now))) made c.push.new.self.items c.loop-rest.rest.now c.in-Some.behind.now c.in-Some.literal (rw c.in-Some.is at c.in_ok-literal.ensures) c.loop-rest.invariant
+    (c.in_ok-push.ensures.items ∙ ap (λ m. made ++ m ∷ []) c.into_term.ensures)
 
 pub literal_sum::literal_terms-returns : goal.literal_sum::literal_terms-returns
 literal_sum::literal_terms-returns t c =
     let rest = c.loop-rest.rest.now in
-    sum_read c.args.limit c.args.names.now c.args.pieces.now rest c.loop-rest.terms.items
+    let max = c.args.limit in
+    let all = c.args.names.now in
+    sum_done max all (limited max (followed (all_of c.args.terms.items) (list_of_pieces max all c.args.pieces.now))) rest c.loop-rest.made.items
     (nil_from_length rest (eqb-true (length rest) 0 (sym c.is_empty.ensures ∙ c.loop-rest-test.false)))
-    (omega (arith, c.loop-rest.terms.ok.0, c.len.ensures, c.if-len-limit.false)) c.loop-rest.invariant
+    (omega (arith, c.loop-rest.made.ok.0, c.len.ensures, c.if-len-limit.false)) c.loop-rest.invariant

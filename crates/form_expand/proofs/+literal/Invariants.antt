@@ -51,7 +51,7 @@ decreases-literal_arguments::literal_arguments-loop-rest l = length l.rest
 -- the terms before are read
 abbrev pub invariant-literal_sum::literal_terms-loop-rest : goal.invariant-literal_sum::literal_terms-loop-rest
 invariant-literal_sum::literal_terms-loop-rest l =
-    limited l.limit (list_of_pieces l.limit l.names l.fn.pieces) ≡ limited l.limit (followed (all_of l.terms.items) (list_of_pieces l.limit l.names l.rest))
+    limited l.limit (followed (all_of l.fn.terms.items) (list_of_pieces l.limit l.names l.fn.pieces)) ≡ limited l.limit (followed (all_of l.made.items) (list_of_pieces l.limit l.names l.rest))
 
 abbrev pub decreases-literal_sum::literal_terms-loop-rest : goal.decreases-literal_sum::literal_terms-loop-rest
 decreases-literal_sum::literal_terms-loop-rest l = length l.rest

@@ -7,4 +7,4 @@ pub returns-in-Some : goal.returns-in-Some
 returns-in-Some c = λ s e.
     let max = c.args.limit in
     let all = c.args.names.now in
-    c.made.ensures ∙ sym (rw c.in-Some.is at c.in_ok-terms.ensures) ∙ ap (list_of_pieces max all) e ∙ pieces_of_tree max all s
+    sym (rw c.in-Some.is at c.in_ok-whole.ensures) ∙ ap (list_of_pieces max all) e ∙ pieces_of_tree max all s

@@ -1,4 +1,4 @@
-use Rattle.std.proofs.Common.{◌≡◌, ℕ, subst, sym, ◌∙◌}
+use Rattle.std.proofs.Common.{ℕ, subst, sym, ◌∙◌}
 use Rattle.form_expand.specs.Listing.{Listing}
 use Rattle.form_flow.specs.Left.{Steps, left_in}
 use Rattle.form_flow.specs.declared.outputs.State.{State}

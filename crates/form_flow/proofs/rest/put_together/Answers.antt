@@ -1,4 +1,4 @@
-use Rattle.std.proofs.Common.{refl}
+use Rattle.std.proofs.Common.{refl, ◌∙◌}
 use Rattle.form_flow.proofs.Resting.{is_put, stays_same}
 use Rattle.form_flow.proofs.rest.put_together.Goals as goal
 
@@ -8,4 +8,4 @@ returns-then-not-has_matched c = λ ps m number is.
 
 pub returns : goal.returns
 returns c = λ ps m number is.
-    is_put c.args.rest.limit ps m (record { coefficient = c.args.coefficient; term = c.args.rest.left }) c.args.rest c.in_ok-row.row refl is c.if-not-has_matched.false number refl c.in_ok-row.ensures
+    is_put c.args.rest.limit ps m (record { coefficient = c.args.coefficient; term = c.args.rest.left }) c.args.rest c.in_ok-new.field-0 refl is c.if-not-has_matched.false number refl (c.in_ok-new.ensures.ok ∙ c.in_ok-row.ensures)

@@ -1,7 +1,7 @@
-use Rattle.std.proofs.Common.{◌≡◌, ℕ, ◌+◌, ◌++◌, List, drop, sym, ap, subst, ◌∙◌}
+use Rattle.std.proofs.Common.{ℕ, ◌+◌, ◌++◌, List, drop, sym, ap, subst, ◌∙◌}
 use Rattle.form_term.specs.declared.power.DotPower.{DotPower}
 use Rattle.form_match.specs.Fits.{FitsExponent}
-use Rattle.form_match.specs.Left.{dots_left, taken, dot_taken}
+use Rattle.form_match.specs.Left.{taken, dot_taken}
 use Rattle.form_match.proofs.Remaining.{dots_from, dots_step}
 use Rattle.form_match.proofs.left.dots_left.Goals as goal
 

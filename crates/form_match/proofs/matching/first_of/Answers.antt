@@ -1,7 +1,12 @@
-use Rattle.std.proofs.Common.{refl, sym, ◌∙◌}
+use Rattle.std.proofs.Common.{◌≡◌, Option, refl, sym, ◌∙◌}
+use Rattle.std.specs.Prelude.{IfSome}
+use Rattle.std.proofs.lemmas.Result.{IfOk-weaker}
+use Rattle.form_match.specs.declared.matching.Match.{Match}
 use Rattle.form_match.specs.Attempts.{table_of}
-use Rattle.form_match.specs.Frames.{uses_at}
-use Rattle.form_match.proofs.Found.{found_first, found_fitting, found_straight, none_first, reached_is}
+use Rattle.form_match.specs.Fits.{Fits}
+use Rattle.form_match.specs.Matching.{first_of, outer}
+use Rattle.form_match.specs.States.{first_found, reach, start}
+use Rattle.form_match.proofs.Found.{found_straight, reached_is}
 use Rattle.form_match.proofs.matching.first_of.Goals as goal
 
 pub first_of_symbols-requires : goal.first_of_symbols-requires
@@ -10,32 +15,39 @@ first_of_symbols-requires c = sym c.if-are_symbols.ensures
 pub returns-then-are_symbols-clause-first : goal.returns-then-are_symbols-clause-first
 returns-then-are_symbols-clause-first c = λ fs is. c.first_of_symbols.ensures.first c.args.pattern.now.fixed fs c.args.cuts.now (c.pieces-pieces.ensures ∙ is)
 
-pub returns-then-is_found-clause-first : goal.returns-then-is_found-clause-first
-returns-then-is_found-clause-first c = λ fs is.
-    found_first c.args.term.now c.args.cuts.now c.args.is_exact c.args.pattern.now.fixed (table_of c.fixed.result.now) fs c.pieces-pieces.result.now c.fixed.ensures (c.pieces-pieces.ensures ∙ is)
-    c.in_ok-is_found.is_found (uses_at c.run.new.self.steps.items 0) c.run.new.self.bindings c.in_ok-found.found c.if-is_found.true c.in_ok-is_found.ensures c.in_ok-found.ensures
-
-pub returns-then-is_found-clause-fits : goal.returns-then-is_found-clause-fits
-returns-then-is_found-clause-fits c =
-    found_fitting c.args.term.now c.args.cuts.now c.args.is_exact (table_of c.fixed.result.now) c.pieces-pieces.result.now
-    c.in_ok-is_found.is_found (uses_at c.run.new.self.steps.items 0) c.run.new.self.bindings c.in_ok-found.found c.term_laws.ensures c.if-is_found.true c.in_ok-is_found.ensures c.in_ok-found.ensures
-
-pub returns-clause-first : goal.returns-clause-first
-returns-clause-first c = λ fs is.
-    none_first c.args.term.now c.args.cuts.now c.args.is_exact c.args.pattern.now.fixed (table_of c.fixed.result.now) fs c.pieces-pieces.result.now c.fixed.ensures (c.pieces-pieces.ensures ∙ is)
-    c.in_ok-is_found.is_found (uses_at c.run.new.self.steps.items 0) c.run.new.self.bindings c.if-is_found.false c.in_ok-is_found.ensures
-
 pub returns-then-lacks_first-clause-first : goal.returns-then-lacks_first-clause-first
 returns-then-lacks_first-clause-first c = λ fs is.
     sym (c.lacks_first.ensures c.args.pattern.now.fixed c.args.cuts.now c.args.is_exact c.if-lacks_first.true)
     ∙ reached_is c.args.term.now c.args.cuts.now c.args.is_exact c.args.pattern.now.fixed c.args.pattern.now.fixed fs c.pieces-pieces.result.now refl (c.pieces-pieces.ensures ∙ is)
 
-pub returns-in-Some-clause-first : goal.returns-in-Some-clause-first
-returns-in-Some-clause-first c = λ fs is.
-    let found = rw c.in-Some.is at c.in_ok-straight.ensures in
-    found ∙ reached_is c.args.term.now c.args.cuts.now c.args.is_exact c.args.pattern.now.fixed (table_of c.fixed.result.now) fs c.args.pattern.now.pieces c.fixed.ensures is
+pub returns-then-is_straight-clause-first : goal.returns-then-is_straight-clause-first
+returns-then-is_straight-clause-first c = λ fs is.
+    let t = c.args.term.now in
+    let T = table_of c.fixed.result.now in
+    IfOk-weaker c.straight_first.result (λ (m : Option Match). m ≡ first_found (reach T c.pieces-pieces.result.now (start (outer t c.args.cuts.now c.args.is_exact))))
+    (λ (m : Option Match). m ≡ first_of c.args.pattern.now.fixed fs t c.args.cuts.now c.args.is_exact)
+    (λ m e. e ∙ reached_is t c.args.cuts.now c.args.is_exact c.args.pattern.now.fixed T fs c.pieces-pieces.result.now c.fixed.ensures (c.pieces-pieces.ensures ∙ is)) c.straight_first.ensures
 
-pub returns-in-Some-clause-fits : goal.returns-in-Some-clause-fits
-returns-in-Some-clause-fits c =
-    let found = rw c.in-Some.is at c.in_ok-straight.ensures in
-    found_straight c.args.term.now c.args.cuts.now c.args.is_exact (table_of c.fixed.result.now) c.args.pattern.now.pieces c.in-Some.found c.term_laws.ensures found
+pub returns-then-is_straight-clause-fits : goal.returns-then-is_straight-clause-fits
+returns-then-is_straight-clause-fits c =
+    let t = c.args.term.now in
+    let T = table_of c.fixed.result.now in
+    IfOk-weaker c.straight_first.result (λ (m : Option Match). m ≡ first_found (reach T c.pieces-pieces.result.now (start (outer t c.args.cuts.now c.args.is_exact))))
+    (λ (m : Option Match). IfSome m (λ found. Fits found.takes t))
+    (λ m e. found_straight t c.args.cuts.now c.args.is_exact T c.pieces-pieces.result.now m c.term_laws.ensures e) c.straight_first.ensures
+
+pub returns-clause-first : goal.returns-clause-first
+returns-clause-first c = λ fs is.
+    let t = c.args.term.now in
+    let T = table_of c.fixed.result.now in
+    IfOk-weaker c.searched.result (λ (m : Option Match). m ≡ first_found (reach T c.pieces-pieces.result.now (start (outer t c.args.cuts.now c.args.is_exact))))
+    (λ (m : Option Match). m ≡ first_of c.args.pattern.now.fixed fs t c.args.cuts.now c.args.is_exact)
+    (λ m e. e ∙ reached_is t c.args.cuts.now c.args.is_exact c.args.pattern.now.fixed T fs c.pieces-pieces.result.now c.fixed.ensures (c.pieces-pieces.ensures ∙ is)) c.searched.ensures
+
+pub returns-clause-fits : goal.returns-clause-fits
+returns-clause-fits c =
+    let t = c.args.term.now in
+    let T = table_of c.fixed.result.now in
+    IfOk-weaker c.searched.result (λ (m : Option Match). m ≡ first_found (reach T c.pieces-pieces.result.now (start (outer t c.args.cuts.now c.args.is_exact))))
+    (λ (m : Option Match). IfSome m (λ found. Fits found.takes t))
+    (λ m e. found_straight t c.args.cuts.now c.args.is_exact T c.pieces-pieces.result.now m c.term_laws.ensures e) c.searched.ensures

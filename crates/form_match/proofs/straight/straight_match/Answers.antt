@@ -1,41 +1,41 @@
-use Rattle.std.proofs.Common.{◌≡◌, [], ◌∷◌, List, Option, sym, ap, subst, ◌∙◌}
+use Rattle.std.proofs.Common.{[], ◌∷◌, List, Option, sym, ap, subst, ◌∙◌}
 use Rattle.std.proofs.lemmas.List.{nil_from_length}
 use Rattle.std.specs.Prelude.{IfOk, IfSome}
 use Rattle.form_term.specs.Term.{IsTerm}
 use Rattle.form_tree.specs.declared.pattern.PatternPiece.{PatternPiece}
 use Rattle.form_tree.specs.declared.pattern.PatternPiece.TheVariants as pieces
 use Rattle.form_match.specs.declared.matching.Match.{Match}
-use Rattle.form_match.specs.Attempts.{table_of}
+use Rattle.form_match.specs.Attempts.{Finds, table_of}
 use Rattle.form_match.specs.Matching.{Host, outer}
 use Rattle.form_match.specs.States.{factors, state, first_found, reach}
 use Rattle.form_match.proofs.Direct.{begun, ended}
 use Rattle.form_match.proofs.straight.straight_match.Goals as goal
 
 pub take_powers-requires : goal.take_powers-requires
-take_powers-requires c = subst (λ (h : Host). IsTerm h.term) (sym c.outer-host.ensures) c.requires
+take_powers-requires c = subst (λ (h : Host). IsTerm h.term) (sym c.outer-host.ensures) c.requires.lawful
 
 pub returns-in_default : goal.returns-in_default
 returns-in_default c =
     let T = table_of c.args.outermost.now.fixed.now in
     let none = rw c.in_default.is at (c.in_ok-powers.ensures T) in
-    sym none ∙ begun T c.args.pieces.now c.outer-host.result (outer c.args.outermost.now.term.now c.args.outermost.now.cuts.now c.args.outermost.now.is_exact) c.new-takes.result c.new-bindings.result c.outer-host.ensures c.new-takes.ensures c.new-bindings.ensures
+    sym (begun T c.args.pieces.now c.outer-host.result (outer c.args.outermost.now.term.now c.args.outermost.now.cuts.now c.args.outermost.now.is_exact) c.args.takes.now c.args.bindings.now c.outer-host.ensures c.requires.untaken c.requires.unbound) ∙ none
 
 pub returns-in_default-split_first : goal.returns-in_default-split_first
 returns-in_default-split_first c =
     let T = table_of c.args.outermost.now.fixed.now in
     let all = rw c.in-Some.is at (c.in_ok-powers.ensures T) in
-    sym (all ∙ ended T c.in-Some.rest.now c.outer-host.result c.take_powers.new.takes c.take_powers.new.bindings (nil_from_length c.in-Some.rest.now c.in_default-split_first.ensures.cases))
-    ∙ begun T c.args.pieces.now c.outer-host.result (outer c.args.outermost.now.term.now c.args.outermost.now.cuts.now c.args.outermost.now.is_exact) c.new-takes.result c.new-bindings.result c.outer-host.ensures c.new-takes.ensures c.new-bindings.ensures
+    sym (begun T c.args.pieces.now c.outer-host.result (outer c.args.outermost.now.term.now c.args.outermost.now.cuts.now c.args.outermost.now.is_exact) c.args.takes.now c.args.bindings.now c.outer-host.ensures c.requires.untaken c.requires.unbound)
+    ∙ all ∙ ended T c.in-Some.rest.now c.outer-host.result c.take_powers.new.takes c.take_powers.new.bindings (nil_from_length c.in-Some.rest.now c.in_default-split_first.ensures.cases)
 
 pub returns-in-Function : goal.returns-in-Function
 returns-in-Function c =
     let T = table_of c.args.outermost.now.fixed.now in
     let behind = c.in-Some-split_first.behind.now in
     let all = rw c.in-Some.is at (c.in_ok-powers.ensures T) in
-    subst (λ (found : Option Match). IfOk c.call_match.result (λ o. IfSome o (λ m. m ≡ found)))
+    subst (λ (found : Option Match). IfOk c.call_match.result (λ o. IfSome o (λ b. Finds b found c.call_match.new.takes c.call_match.new.bindings)))
     (sym (all
     ∙ ap (λ (ps : List PatternPiece). first_found (reach T ps (state (factors c.outer-host.result c.take_powers.new.takes ∷ []) c.take_powers.new.bindings)))
     (c.in-Some-split_first.ensures.cases.0 ∙ ap (λ (p : PatternPiece). p ∷ behind) c.in-Function.is)
     ∙ ap (λ (h : Host). first_found (reach T (pieces.Function c.in-Function.name ∷ behind) (state (factors h c.take_powers.new.takes ∷ []) c.take_powers.new.bindings))) c.outer-host.ensures)
-    ∙ begun T c.args.pieces.now c.outer-host.result (outer c.args.outermost.now.term.now c.args.outermost.now.cuts.now c.args.outermost.now.is_exact) c.new-takes.result c.new-bindings.result c.outer-host.ensures c.new-takes.ensures c.new-bindings.ensures)
+    ∙ begun T c.args.pieces.now c.outer-host.result (outer c.args.outermost.now.term.now c.args.outermost.now.cuts.now c.args.outermost.now.is_exact) c.args.takes.now c.args.bindings.now c.outer-host.ensures c.requires.untaken c.requires.unbound)
     c.call_match.ensures

@@ -1,6 +1,5 @@
-use Rattle.std.proofs.Common.{refl, sym, ◌∙◌, ap, ◌≡◌, Ok, Err, Option, Some, None}
-use Rattle.std.specs.Option.{ok_or}
-use Rattle.form_frac.specs.Fraction.{Fraction, multiply}
+use Rattle.std.proofs.Common.{refl, sym, ◌∙◌, ap}
+use Rattle.form_frac.specs.Fraction.{multiply}
 use Rattle.std.specs.List.{list_any}
 use Rattle.form_normal.specs.Product.{is_fixed, number_alone}
 use Rattle.form_normal.proofs.Parts.{some_from, none_from, product_overflows}

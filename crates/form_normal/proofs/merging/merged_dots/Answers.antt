@@ -1,6 +1,6 @@
 -- Each turn goes on with the walk, and at its end one side is used up.
 use Rattle.std.proofs.Common.{◌≡◌, ℕ, ◌+◌, ◌-◌, ◌<◌, List, [], ◌∷◌, ◌++◌, length, take, drop, get_or, refl, ap, sym, ◌∙◌, inl, inr, length-drop, arith, rules}
-use Rattle.std.specs.Prelude.{ℤ, pos, negsuc, ◌+ℤ◌, nat_abs, FitsSigned}
+use Rattle.std.specs.Prelude.{ℤ, pos, negsuc, nat_abs, FitsSigned}
 use Rattle.std.specs.Int.{cast_unsigned, w32}
 use Rattle.std.specs.List.{AllByRecursion}
 use Rattle.std.specs.List.Sorted.{IsStrictlySortedBy}
@@ -9,7 +9,7 @@ use Rattle.std.specs.declared.cmp.Ordering.{Ordering}
 use Rattle.std.specs.declared.cmp.Ordering.TheVariants.{Less, Equal, Greater}
 use Rattle.form_term.specs.declared.power.DotPower.{DotPower}
 use Rattle.form_term.specs.Term.{pair_order}
-use Rattle.form_normal.specs.Lists.{joined_dots, dots_product}
+use Rattle.form_normal.specs.Lists.{dots_product}
 use Rattle.form_normal.proofs.Dots.{dots_walk_left, dots_walk_right, dots_walk_both, dots_walk_none, dots_walk_ends}
 use Rattle.form_normal.proofs.merging.merged_dots.Goals as goal
 use Rattle.form_normal.proofs.merging.merged_dots.Goals.{then-dot-ne0+in_ok-push-in-Equal, else-dot-ne0, then-loop-i-test+else-j-right, else-loop-i-test}

@@ -1,6 +1,6 @@
 use Rattle.std.proofs.Common.{◌≡◌, List, sym, ap, subst, ◌∙◌, rules}
 use Rattle.form_match.specs.declared.frames.Step.{Step}
-use Rattle.form_match.specs.declared.search.Attempt.TheVariants as attempts
+use Rattle.form_match.specs.declared.frames.Attempt.TheVariants as attempts
 use Rattle.form_match.specs.Attempts.{IsSomewhere, table_of}
 use Rattle.form_match.specs.Frames.{bound_at}
 use Rattle.form_match.specs.Matching.{outer}

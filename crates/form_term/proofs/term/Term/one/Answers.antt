@@ -7,4 +7,4 @@ use Rattle.form_term.specs.TermLaws.{symbols_lawful}
 use Rattle.form_term.proofs.term.Term.one.Goals as goal
 
 pub invariant_of-result : goal.invariant_of-result
-invariant_of-result c = rw c.new.ensures.items (symbols_lawful [] (tt, All-nil (λ (p : Power). 0 < nat_abs p.exponent)) (All-nil (λ (p : Power). nat_abs p.exponent ≤ largest_exponent)) (omega arith), tt)
+invariant_of-result c = rw (c.new.ensures.items, c.new-2.ensures.items) (symbols_lawful [] (tt, All-nil (λ (p : Power). 0 < nat_abs p.exponent)) (All-nil (λ (p : Power). nat_abs p.exponent ≤ largest_exponent)) (omega arith), tt)

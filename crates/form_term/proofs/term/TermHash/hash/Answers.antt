@@ -1,11 +1,9 @@
 -- A term's powers are those of its exponents.
-use Rattle.std.proofs.Common.{◌≡◌, ◌∙◌, ◌++◌, List, [], refl, ap, sym, subst, Bool, true, false}
-use Rattle.std.specs.Prelude.{ℕ, fold, if◌then◌else◌}
+use Rattle.std.proofs.Common.{◌≡◌, ◌∙◌, ◌++◌, List, [], refl, ap, sym, subst, Bool, true, false, fold, if◌then◌else◌, rules}
 use Rattle.std.proofs.lemmas.List.Sums.{fold-append}
-use Rattle.form_term.specs.declared.term.Mixed.{Mixed}
-use Rattle.form_term.specs.Factors.{others_in}
-use Rattle.form_term.specs.Term.{Term, Others, is_nothing}
-use Rattle.form_term.specs.Feeding.{fed_powers, fed_others}
+use Rattle.form_term.specs.Term.{is_nothing}
+use Rattle.form_term.specs.Terms.{rest_of}
+use Rattle.form_term.specs.Feeding.{fed_powers, fed_calls, fed_rest, fed_others}
 use Rattle.form_term.specs.SymbolLaws.{powers_normal}
 use Rattle.form_term.proofs.term.TermHash.hash.Goals as goal
 
@@ -13,34 +11,47 @@ use Rattle.form_term.proofs.term.TermHash.hash.Goals as goal
 fed_then : {A B : Type 0} (w : B → A → B) (before between after : B) (xs ys : List A) → between ≡ fold w before xs → after ≡ fold w between ys → after ≡ fold w before (xs ++ ys)
 fed_then w before between after xs ys e f = f ∙ ap (λ s. fold w s ys) e ∙ sym (fold-append w before xs ys)
 
--- others are fed where there are some
-fed_some : {B : Type 0} (w : B → List ℕ → B) (before after : B) (o : Others) → is_nothing o ≡ false → after ≡ fold w before (fed_others o) → after ≡ fold w before (if is_nothing o then [] else fed_others o)
-fed_some w before after o there e = subst (λ (b : Bool). after ≡ fold w before (if b then [] else fed_others o)) (sym there) e
+-- what is there is fed
+fed_some : {A B : Type 0} (w : B → A → B) (before after : B) (none : Bool) (xs : List A) → none ≡ false → after ≡ fold w before xs → after ≡ fold w before (if none then [] else xs)
+fed_some w before after none xs there e = subst (λ (b : Bool). after ≡ fold w before (if b then [] else xs)) (sym there) e
 
-fed_none : {B : Type 0} (w : B → List ℕ → B) (before : B) (o : Others) → is_nothing o ≡ true → before ≡ fold w before (if is_nothing o then [] else fed_others o)
-fed_none w before o none = subst (λ (b : Bool). before ≡ fold w before (if b then [] else fed_others o)) (sym none) refl
+fed_none : {A B : Type 0} (w : B → A → B) (before : B) (none : Bool) (xs : List A) → none ≡ true → before ≡ fold w before (if none then [] else xs)
+fed_none w before none xs absent = subst (λ (b : Bool). before ≡ fold w before (if b then [] else xs)) (sym absent) refl
 
-pub returns-in-Mixed : goal.returns-in-Mixed
-returns-in-Mixed g c =
+pub returns-then-has_only_symbols : goal.returns-then-has_only_symbols
+returns-then-has_only_symbols g c =
     let t = c.args.self.now in
-    let kept : others_in c.self.inside.factors ≡ t.others = ap (λ (u : Term). u.others) c.self.view_is in
-    let mixed : others_in c.self.inside.factors ≡ c.in-Mixed.mixed.value.others = ap others_in c.in-Mixed.is in
-    let here : c.in-Mixed.mixed.value.others ≡ t.others = sym mixed ∙ kept in
-    let same : c.deref.result.now.others ≡ t.others = ap (λ (m : Mixed). m.others) c.deref.ensures ∙ here in
-    let some : is_nothing c.in-Mixed.mixed.value.others ≡ false = rw c.in-Mixed.is at c.self.invariant.1 in
-    let there : is_nothing t.others ≡ false = ap is_nothing (sym here) ∙ some in
-    let symbols = rw c.powers.ensures.powers at c.hash.ensures in
-    let others = c.feed.ensures ∙ ap (λ (o : Others). fold g.H.Hasher.write c.hash.new.state (fed_others o)) same in
-    rw (powers_normal t.symbols (c.powers.ensures.lawful.rising, c.powers.ensures.lawful.present))
-    (fed_then g.H.Hasher.write c.args.state.now c.hash.new.state c.feed.new.state (fed_powers t.symbols) (if is_nothing t.others then [] else fed_others t.others) symbols
-    (fed_some g.H.Hasher.write c.hash.new.state c.feed.new.state t.others there others))
-
-pub returns-in_default : goal.returns-in_default
-returns-in_default g c =
-    let t = c.args.self.now in
-    let kept : others_in c.self.inside.factors ≡ t.others = ap (λ (u : Term). u.others) c.self.view_is in
-    let none : is_nothing t.others ≡ true = ap is_nothing (sym kept ∙ ap others_in c.in_default.is) in
+    let w = g.H.Hasher.write in
+    let none : is_nothing t.others ≡ true = search rules in
     let symbols = rw c.powers.ensures.powers at c.hash.ensures in
     rw (powers_normal t.symbols (c.powers.ensures.lawful.rising, c.powers.ensures.lawful.present))
-    (fed_then g.H.Hasher.write c.args.state.now c.hash.new.state c.hash.new.state (fed_powers t.symbols) (if is_nothing t.others then [] else fed_others t.others) symbols
-    (fed_none g.H.Hasher.write c.hash.new.state t.others none))
+    (fed_then w c.args.state.now c.hash.new.state c.hash.new.state (fed_powers t.symbols) (if is_nothing t.others then [] else fed_others t.others) symbols
+    (fed_none w c.hash.new.state (is_nothing t.others) (fed_others t.others) none))
+
+pub returns-then-has_rest : goal.returns-then-has_rest
+returns-then-has_rest g c =
+    let t = c.args.self.now in
+    let w = g.H.Hasher.write in
+    let some : is_nothing t.others ≡ false = search rules in
+    let more : is_nothing (rest_of t.others) ≡ false = search rules in
+    let symbols = rw c.powers.ensures.powers at c.hash.ensures in
+    let functions = rw c.functions.ensures at c.hash-2.ensures in
+    let rest = fed_some w c.hash-2.new.state c.feed_rest.new.state (is_nothing (rest_of t.others)) (fed_rest t.others) more c.feed_rest.ensures in
+    let others = fed_then w c.hash.new.state c.hash-2.new.state c.feed_rest.new.state (fed_calls t.others.functions) (if is_nothing (rest_of t.others) then [] else fed_rest t.others) functions rest in
+    rw (powers_normal t.symbols (c.powers.ensures.lawful.rising, c.powers.ensures.lawful.present))
+    (fed_then w c.args.state.now c.hash.new.state c.feed_rest.new.state (fed_powers t.symbols) (if is_nothing t.others then [] else fed_others t.others) symbols
+    (fed_some w c.hash.new.state c.feed_rest.new.state (is_nothing t.others) (fed_others t.others) some others))
+
+pub returns-else-has_rest : goal.returns-else-has_rest
+returns-else-has_rest g c =
+    let t = c.args.self.now in
+    let w = g.H.Hasher.write in
+    let some : is_nothing t.others ≡ false = search rules in
+    let none : is_nothing (rest_of t.others) ≡ true = search rules in
+    let symbols = rw c.powers.ensures.powers at c.hash.ensures in
+    let functions = rw c.functions.ensures at c.hash-2.ensures in
+    let rest = fed_none w c.hash-2.new.state (is_nothing (rest_of t.others)) (fed_rest t.others) none in
+    let others = fed_then w c.hash.new.state c.hash-2.new.state c.hash-2.new.state (fed_calls t.others.functions) (if is_nothing (rest_of t.others) then [] else fed_rest t.others) functions rest in
+    rw (powers_normal t.symbols (c.powers.ensures.lawful.rising, c.powers.ensures.lawful.present))
+    (fed_then w c.args.state.now c.hash.new.state c.hash-2.new.state (fed_powers t.symbols) (if is_nothing t.others then [] else fed_others t.others) symbols
+    (fed_some w c.hash.new.state c.hash-2.new.state (is_nothing t.others) (fed_others t.others) some others))

@@ -1,0 +1,10 @@
+use Rattle.std.proofs.Common.{Some, sym, ap, ◌∙◌}
+use Rattle.form_match.proofs.matching.searched.Goals as goal
+
+pub returns-then-is_found : goal.returns-then-is_found
+returns-then-is_found c =
+    let found = rw (c.if-is_found.true) at c.in_ok-is_found.ensures in
+    ap Some c.in_ok-found.ensures ∙ sym found
+
+pub returns : goal.returns
+returns c = let none = rw (c.if-is_found.false) at c.in_ok-is_found.ensures in sym none
