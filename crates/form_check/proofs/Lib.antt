@@ -20,6 +20,7 @@ pub mod PatternWalked
 pub mod PatternWhole
 pub mod Pieces
 pub mod PuttingIn
+pub mod ShortWays
 pub mod Sound
 pub mod Walked
 pub mod Whole

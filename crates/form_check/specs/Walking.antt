@@ -297,6 +297,11 @@ taken_at names stands known w p rest (places.Component link id x) = component_en
 abbrev pub taken : List Entry → (ℕ → Bool) → Known → Walk → Piece → List Piece → Result Walk Refusal
 taken names stands known w p rest = taken_at names stands known w p rest w.place
 
+-- one piece further on a short way, where it was gone; otherwise nothing is done
+abbrev pub IfPlain : Bool → Result Walk Refusal → walks.Walk → walks.Walk → Type 0
+IfPlain true next before after = next ≡ Ok (walk_of after)
+IfPlain false next before after = after ≡ before
+
 -- all pieces
 unfoldable pub walked : List Entry → (ℕ → Bool) → Known → Walk → List Piece → Result Walk Refusal
 walked names stands known w [] = Ok w

@@ -1,14 +1,15 @@
 //! What the pieces say that come next in a right side.
-ghost use Rattle.std.specs.Prelude.{◌≡◌, IfOk, is_some};
+ghost use Rattle.std.specs.Prelude.{◌≡◌, None, Ok, IfOk, IfSome, is_some};
 ghost use Rattle.form_check.specs.Refusal.{error_of};
 ghost use Rattle.form_check.specs.RightSide.{lone as lone_of, wrong, spelled_of};
+ghost use Rattle.form_check.specs.RightSide as definition;
 ghost use Rattle.form_check.specs.Walking as walking;
 ghost use Rattle.form_check.specs.Walking.{misplaced_to_end, is_single as is_single_at};
 
 use crate::CheckError;
 use crate::kinds::{lone, misplaced, wrong_delta, wrong_name};
 use crate::known::Known;
-use form_ast::{Link, Named, Power};
+use form_ast::{Link, Named, Power, Sign};
 use form_names::Names;
 use form_tree::Piece;
 use std::alloc::{AllocError, Global};
@@ -34,6 +35,24 @@ pub fn power_at(rest: &[form_ast::Piece]) -> Option<Power>
     match rest {
         [first, ..] => power_of(first),
         [] => None,
+    }
+}
+
+/// The power of the factor that ends before these, where it is a number of at most so much: whether it has a minus, and
+/// its size.
+#[inline(always)]
+pub fn plain_power(rest: &[form_ast::Piece], most: u32) -> Option<(bool, u32)>
+    ensures { IfSome result (λ power. (walking.name_power_at rest.now ≡ None) × (definition.has_minus (walking.power_at rest.now) ≡ power.0) × (definition.size_within most (walking.power_at rest.now) ≡ Ok power.1)) }
+{
+    match rest {
+        [form_ast::Piece::Raised(_, sign, number), ..] => {
+            if number.value > u128::from(most) {
+                return None;
+            }
+            Some((matches!(sign, Some(Sign::Minus)), number.value as u32))
+        }
+        [form_ast::Piece::RaisedByName(_, _), ..] => None,
+        _ => Some((false, 1)),
     }
 }
 

@@ -1,6 +1,7 @@
 //! What names stand for, and what can't stand there.
-ghost use Rattle.std.specs.Prelude.{◌≡◌, IfOk};
+ghost use Rattle.std.specs.Prelude.{◌≡◌, Some, Ok, IfOk, IfSome};
 ghost use Rattle.form_base.specs.declared.cause.Cause.TheVariants.{WrongKind, Undeclared};
+ghost use Rattle.form_names.specs.Names.{lookup, kind_at};
 ghost use Rattle.form_check.specs.Refusal.{Gives, error_of};
 ghost use Rattle.form_check.specs.RightSide.{spelled_of, wrong, delta_at, misplaced as misplaced_name, found as found_of, vector as vector_named, named_end as end_named, fixed_end as end_fixed, head as head_named, lone_named};
 ghost use Rattle.form_check.specs.Walking.{alone_piece, entry_piece, alone_end as end_alone, IsLone};
@@ -63,6 +64,33 @@ pub fn misplaced(alloc: Global, names: &Names, named: &Named) -> Result<CheckErr
                 Ok(CheckError::Refused(Cause::Undeclared(name), spelled.spot))
             }
         },
+    }
+}
+
+/// A symbol, where the name is declared as one.
+#[inline(always)]
+pub fn plain_symbol(names: &Names, spelled: &Spelled) -> Option<Id>
+    ensures stands { IfSome result (λ id. lookup names.now spelled.now.name ≡ Some id) }
+    ensures kind { IfSome result (λ id. kind_at names.now id ≡ Some Kind.Symbol) }
+{
+    let id = names.lookup(spelled.name.as_str())?;
+    if matches!(names.kind(id), Kind::Symbol) {
+        Some(id)
+    } else {
+        None
+    }
+}
+
+/// A function, and whether it commutes, where the name is declared as one.
+#[inline(always)]
+pub fn plain_head(names: &Names, spelled: &Spelled) -> Option<(Id, bool)>
+    ensures { IfSome result (λ f. head_named names.now (Named.Declared spelled.now) ≡ Ok (Head.Function f.0 f.1)) }
+{
+    let id = names.lookup(spelled.name.as_str())?;
+    match names.kind(id) {
+        Kind::Function => Some((id, false)),
+        Kind::CommutingFunction => Some((id, true)),
+        _ => None,
     }
 }
 

@@ -15,6 +15,7 @@ pub mod laws;
 mod linking;
 mod naming;
 mod pattern;
+mod plain;
 mod powers;
 mod program;
 mod putting;

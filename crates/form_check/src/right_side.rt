@@ -36,7 +36,9 @@ fn walked(
     }
     let mut rest = list;
     while let [piece, others @ ..] = rest {
-        walk.take(alloc, names, standing, known, piece, others)?;
+        if !walk.take_plain(names, known, piece, others)? {
+            walk.take(alloc, names, standing, known, piece, others)?;
+        }
         rest = others;
     }
     Ok(walk)

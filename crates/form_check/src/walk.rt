@@ -92,6 +92,7 @@ impl Walk {
     }
 
     /// Adds the last piece of a factor.
+    #[inline(never)]
     pub fn add(&mut self, piece: Piece) -> Result<(), AllocError>
         ensures made { OnOk result (walk_of self.new ≡ at (self.old.pieces.items ++ piece ∷ []) Place.Sum self.old.calls) }
         ensures calls { OnOk result (self.new.calls ≡ self.old.calls) }
@@ -192,6 +193,7 @@ impl Walk {
     }
 
     /// A piece of a sum.
+    #[inline(never)]
     fn in_sum(
         &mut self,
         alloc: Global,
@@ -324,6 +326,7 @@ impl Walk {
     }
 
     /// Goes one piece further, behind which these are.
+    #[inline(never)]
     pub fn take(
         &mut self,
         alloc: Global,

@@ -1,6 +1,8 @@
 pub mod Collected
+pub mod Digits
 pub mod Lists
 pub mod Members
+pub mod Places
 pub mod ShortLists
 pub mod Sorted
 pub mod Stands

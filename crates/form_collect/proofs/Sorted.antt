@@ -5,10 +5,8 @@ use Rattle.std.specs.List.{AllByRecursion, IsDistinct}
 use Rattle.std.specs.List.Sorted.{IsPermutation, IsSortedBy, IsStrictlySortedBy}
 use Rattle.std.specs.Map.{keys_of}
 use Rattle.std.specs.Ordering.{is_lt}
-use Rattle.std.specs.Cmp.{IsTotalOrder}
-use Rattle.std.specs.declared.cmp.Ordering.{Ordering}
 use Rattle.std.specs.declared.cmp.Ordering.TheVariants.{Less}
-use Rattle.std.proofs.lemmas.Cmp.{on_total, eq_by_cmp_equiv}
+use Rattle.std.proofs.lemmas.Cmp.{eq_by_cmp_equiv}
 use Rattle.std.proofs.lemmas.List.Elements.{recursion_from_All}
 use Rattle.std.proofs.lemmas.List.Sorted.{IsPermutation-sym, IsPermutation-map, All-permutation, Contains-permutation}
 use Rattle.std.proofs.lemmas.Map.Keys.{IsDistinct-IsPermutation}
@@ -18,16 +16,11 @@ use Rattle.form_term.specs.TermLaws.{order_total}
 use Rattle.form_term.specs.declared.monomial.Monomial.{Monomial}
 use Rattle.form_collect.specs.Collecting.{terms_of, coefficients_at, total, with_totals, collected}
 use Rattle.form_collect.specs.Collector.{AreTotalsOf}
+use Rattle.form_collect.specs.Keys.{term_order}
 use Rattle.form_collect.proofs.Lists.{same, terms_rise}
+use Rattle.form_collect.proofs.Places.{term_order_total}
 use Rattle.form_collect.proofs.Members.{Member, member_from, contains_from, same_members, rises_from_sort}
 use Rattle.form_collect.proofs.Sums.{IsTotal}
-
--- the order of terms, of monomials
-abbrev pub term_order : Monomial → Monomial → Ordering
-term_order a b = order a.term b.term
-
-term_order_total : IsTotalOrder term_order
-term_order_total = on_total (λ (m : Monomial). m.term) order_total
 
 -- the entries as terms with their totals, those of total 0 left out
 unfoldable pub monomials_of : List (Term × Fraction) → List Monomial

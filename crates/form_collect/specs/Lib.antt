@@ -1,3 +1,4 @@
 pub mod Collecting
 pub mod Collector
+pub mod Keys
 pub mod Short

@@ -5,8 +5,9 @@ ghost use Rattle.form_frac.specs.declared.frac_error.FracError.{FracError};
 ghost use Rattle.form_term.specs.declared.monomial.Monomial.{Monomial};
 ghost use Rattle.form_collect.specs.Collecting.{collected};
 
+use crate::sorting::sorted;
 use form_frac::{Frac, FracError};
-use form_term::{Monomial, Term, compare};
+use form_term::{Monomial, Term};
 use std::alloc::{AllocError, AllocFailed, Global};
 use std::collections::HashMap;
 
@@ -90,15 +91,15 @@ impl Collector {
         if self.has_overflowed {
             return Err(CollectError::Overflow);
         }
-        let mut terms = Vec::with_capacity(self.alloc, self.sums.len())?;
+        let alloc = self.alloc;
+        let mut terms = Vec::with_capacity(alloc, self.sums.len())?;
         for (term, coefficient) in self.sums {
             if coefficient.is_zero() {
                 continue;
             }
             terms.push(Monomial { coefficient, term })?;
         }
-        terms.sort_unstable_by(|a, b| compare(&a.term, &b.term));
-        Ok(terms)
+        Ok(sorted(alloc, terms)?)
     }
 }
 

@@ -4,6 +4,7 @@
 mod collector;
 pub mod laws;
 mod short;
+mod sorting;
 
 pub use collector::{CollectError, Collector};
 pub use short::collect_short;

@@ -9,9 +9,11 @@ pub mod Listings
 mod LiteralCalls
 pub mod Literals
 mod LiteralSums
+mod LoneFunctions
 mod Lones
 pub mod Lookups
 pub mod NumberLists
+pub mod NumberPowers
 pub mod NumberSums
 pub mod Parenthesized
 pub mod Places

@@ -1,6 +1,6 @@
 -- Arguments each of which is read at once.
 use Rattle.std.proofs.Common.{◌≡◌, ℕ, Bool, true, false, List, [], ◌∷◌, length, refl, sym, ap, ◌∙◌, arith}
-use Rattle.std.specs.Prelude.{All, ℤ, pos, Option, Some, None, Result, Ok, Err, IfOk, IfSome, OnSome}
+use Rattle.std.specs.Prelude.{All, ℤ, pos, Option, Some, None, Result, Ok, Err, IfOk, IfSome, OnOk}
 use Rattle.std.specs.Borrow.{Bor}
 use Rattle.std.specs.Global.{Vec}
 use Rattle.std.specs.List.Sorted.{IsStrictlySortedBy}
@@ -77,16 +77,14 @@ unfolding wild_list
 wild_number all symbol is_over power number e f bound = ap (wild_list_by symbol is_over power) bound ∙ rw (e, f) refl
 
 -- a term times a function that stands alone
-pub function_times : {E : Type 0} (r : Result (Option Monomial) E) (is_commuting : Bool) (c : Call) (front : Monomial) → is_commuting ≡ true → IfOk r (λ made. IfSome made (λ m. product_of front (function_alone c) ≡ Ok (Some m))) → IfOk r (λ made. OnSome made (StandsAlone (function_alone c)))
-    → IfOk r (λ made. IfSome made (λ m. IsTimes (list_of_call is_commuting c) front m))
+pub function_times : {E : Type 0} (r : Result Monomial E) (is_commuting : Bool) (c : Call) (front : Monomial) → is_commuting ≡ true → IfOk r (λ m. product_of front (function_alone c) ≡ Ok (Some m)) → OnOk r (StandsAlone (function_alone c))
+    → IfOk r (λ m. IsTimes (list_of_call is_commuting c) front m)
 unfolding list_alone
-function_times (Ok None) is_commuting c front e made stands = tt
-function_times (Ok (Some m)) is_commuting c front e made stands = rw e (record { factor = function_alone c; alone = ap of_product stands.alone; by_one = stands.by_one; product = made })
+function_times (Ok m) is_commuting c front e made stands = rw e (record { factor = function_alone c; alone = ap of_product stands.alone; by_one = stands.by_one; product = made })
 function_times (Err failed) is_commuting c front e made stands = tt
 
-pub word_times : {E : Type 0} (r : Result (Option Monomial) E) (is_commuting : Bool) (c : Call) (front : Monomial) → is_commuting ≡ false → IfOk r (λ made. IfSome made (λ m. product_of front (word_alone c) ≡ Ok (Some m))) → IfOk r (λ made. OnSome made (StandsAlone (word_alone c)))
-    → IfOk r (λ made. IfSome made (λ m. IsTimes (list_of_call is_commuting c) front m))
+pub word_times : {E : Type 0} (r : Result Monomial E) (is_commuting : Bool) (c : Call) (front : Monomial) → is_commuting ≡ false → IfOk r (λ m. product_of front (word_alone c) ≡ Ok (Some m)) → OnOk r (StandsAlone (word_alone c))
+    → IfOk r (λ m. IsTimes (list_of_call is_commuting c) front m)
 unfolding list_alone
-word_times (Ok None) is_commuting c front e made stands = tt
-word_times (Ok (Some m)) is_commuting c front e made stands = rw e (record { factor = word_alone c; alone = ap of_product stands.alone; by_one = stands.by_one; product = made })
+word_times (Ok m) is_commuting c front e made stands = rw e (record { factor = word_alone c; alone = ap of_product stands.alone; by_one = stands.by_one; product = made })
 word_times (Err failed) is_commuting c front e made stands = tt

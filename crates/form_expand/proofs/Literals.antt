@@ -22,7 +22,7 @@ use Rattle.form_expand.specs.Left.{row, row_behind}
 use Rattle.form_expand.specs.Listing.{Listing, nothing, single, before_by, limited, followed, pairs, powers, signed}
 use Rattle.form_expand.specs.Literals.{IsLiteral, IsTakenAt, IsTakenWithin, IsTimes, AreArgued}
 use Rattle.form_expand.specs.Pieces.{list_of_piece}
-use Rattle.form_expand.specs.Readers.{EndsProduct, is_minus_piece, product_part, in_product, list_of_calling}
+use Rattle.form_expand.specs.Readers.{EndsProduct, IsReadFunction, is_minus_piece, product_part, in_product, list_of_calling}
 use Rattle.form_expand.specs.Reading.{in_sum, in_function, fresh, calling, fed, read_from, list_of_pieces, begins_product}
 use Rattle.form_expand.specs.Singles.{list_of_call}
 use Rattle.form_expand.proofs.Behind.{read_ends}
@@ -151,26 +151,29 @@ module _ (max : ℕ) (all : Meanings) where
   call_taken_from (Err failed) piece link f g is_commuting more old new is e h = tt
 
   -- its arguments have these pieces
-  pub within_taken : (f : ℕ) (is_commuting : Bool) (arguments : Arguments) (ps within rest : List Piece) (len : ℕ) (old new : Monomial) → closing_at 0 0 ps ≡ Some (len, Power 1) → within ≡ take len ps → rest ≡ drop (len + 1) ps
-      → AreArgued max all within arguments → IsTimes (list_of_call is_commuting (call f arguments)) old new → length rest ≤ length ps → IsTakenWithin f is_commuting max all ps old new rest
+  pub within_read : (f : ℕ) (is_commuting : Bool) (arguments : Arguments) (ps within rest : List Piece) (len : ℕ) → closing_at 0 0 ps ≡ Some (len, Power 1) → within ≡ take len ps → rest ≡ drop (len + 1) ps
+      → AreArgued max all within arguments → (factors : List Listing) → IsReadFunction f is_commuting max all ps factors (factors ++ limited max (list_of_call is_commuting (call f arguments)) ∷ []) rest
   unfolding powers
-  within_taken f is_commuting arguments ps within rest len old new closes front behind argued t short =
+  within_read f is_commuting arguments ps within rest len closes front behind argued factors = λ m.
       let k = calling max f is_commuting in
       let l = list_of_call is_commuting (call f arguments) in
       let e : len - 0 ≡ len = omega arith in
       let same : list_of_calling all k (take len ps) ≡ l = ap (list_of_calling all k) (sym front) ∙ argued f is_commuting in
-      record {
-        taken = record {
-          list = l;
-          times = t;
-          read = λ factors m.
-              let h = read_ended all (in_sum (product_part max m factors)) 0 (in_function k) [] ps len (Power 1) closes in
-              (rw e at h.read)
-              ∙ ap (λ (x : Listing). read_from all (in_product max m (factors ++ limited max x ∷ [])) (drop (len + 1) ps)) same
-              ∙ ap (read_from all (in_product max m (factors ++ limited max l ∷ []))) (sym behind);
-        };
-        shorter = short;
-      }
+      let h = read_ended all (in_sum (product_part max m factors)) 0 (in_function k) [] ps len (Power 1) closes in
+      (rw e at h.read)
+      ∙ ap (λ (x : Listing). read_from all (in_product max m (factors ++ limited max x ∷ [])) (drop (len + 1) ps)) same
+      ∙ ap (read_from all (in_product max m (factors ++ limited max l ∷ []))) (sym behind)
+
+  pub within_taken : (f : ℕ) (is_commuting : Bool) (arguments : Arguments) (ps within rest : List Piece) (len : ℕ) (old new : Monomial) → closing_at 0 0 ps ≡ Some (len, Power 1) → within ≡ take len ps → rest ≡ drop (len + 1) ps
+      → AreArgued max all within arguments → IsTimes (list_of_call is_commuting (call f arguments)) old new → length rest ≤ length ps → IsTakenWithin f is_commuting max all ps old new rest
+  within_taken f is_commuting arguments ps within rest len old new closes front behind argued t short = record {
+    taken = record {
+      list = list_of_call is_commuting (call f arguments);
+      times = t;
+      read = within_read f is_commuting arguments ps within rest len closes front behind argued;
+    };
+    shorter = short;
+  }
 
 -- how many pieces stand before the end
 pub ends_within : (all : Meanings) (ps : List Piece) (len : ℕ) (by : Ended) → closing_at 0 0 ps ≡ Some (len, by) → len < length ps

@@ -42,7 +42,7 @@ use Rattle.form_expand.proofs.Parenthesized.{linked_first}
 abbrev pub StandAlone : Type 0
 StandAlone = (f : Fraction) → IsLowest f → product_of unit (number_alone f) ≡ Ok (Some (number_alone f))
 
-product_of_numbers : (p q r : Fraction) → multiply p q ≡ Some r → product_of (number_alone p) (number_alone q) ≡ Ok (Some (number_alone r))
+pub product_of_numbers : (p q r : Fraction) → multiply p q ≡ Some r → product_of (number_alone p) (number_alone q) ≡ Ok (Some (number_alone r))
 unfolding product symbols_product others_product dots_product in_order
 product_of_numbers p q r e = rw e refl
 

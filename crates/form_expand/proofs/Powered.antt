@@ -1,15 +1,49 @@
 -- Powers of fractions, factor by factor.
-use Rattle.std.proofs.Common.{◌≡◌, ℕ, zero, suc, ◌+◌, ◌-◌, ◌≤◌, refl, sym, ap, ◌∙◌, arith}
+use Rattle.std.proofs.Common.{◌≡◌, ℕ, zero, suc, ◌+◌, ◌-◌, ◌/◌, ◌%◌, ◌≤◌, ℤ, pos, negsuc, nat_abs, refl, sym, ap, ◌∙◌, arith}
 use Rattle.std.specs.Prelude.{Option, Some, None, option_and_then, Ok, Err}
 use Rattle.std.specs.Option.{ok_or}
 use Rattle.form_frac.specs.declared.frac_error.FracError.{FracError}
 use Rattle.form_frac.specs.declared.frac_error.FracError.TheVariants.{Overflow}
-use Rattle.form_frac.specs.Fraction.{Fraction, multiply}
+use Rattle.form_frac.specs.Fraction.{Fraction, whole, divisor_from, gcd, reduced, multiply}
 use Rattle.form_expand.specs.Numbers.{raised}
 
 raised_step : (f : Fraction) (k : ℕ) → raised f (suc (suc k)) ≡ option_and_then (λ p. multiply p f) (raised f (suc k))
 unfolding raised
 raised_step f k = refl
+
+-- 1 and -1: every second power is 1
+
+abbrev Repeats : Fraction → Type 0
+Repeats f = (multiply (whole (pos 1)) f ≡ Some f) × (multiply f f ≡ Some (whole (pos 1)))
+
+one_repeats : (n : ℤ) → nat_abs n ≡ 1 → Repeats (whole n)
+unfolding multiply reduced gcd divisor_from
+one_repeats (pos zero) e = absurd (omega arith)
+one_repeats (pos (suc zero)) e = (refl, refl)
+one_repeats (pos (suc (suc k))) e = absurd (omega arith)
+one_repeats (negsuc zero) e = (refl, refl)
+one_repeats (negsuc (suc k)) e = absurd (omega arith)
+
+one_pairs : (f : Fraction) → Repeats f → (j : ℕ) → (raised f (suc (j + j)) ≡ Some f) × (raised f (suc (suc (j + j))) ≡ Some (whole (pos 1)))
+unfolding raised
+one_pairs f repeats zero = (refl, repeats.1)
+one_pairs f repeats (suc j) =
+    let next : suc j + suc j ≡ suc (suc (j + j)) = omega arith in
+    let odd = raised_step f (suc (j + j)) ∙ ap (option_and_then (λ p. multiply p f)) (one_pairs f repeats j).1 ∙ repeats.0 in
+    rw next (odd, raised_step f (suc (suc (j + j))) ∙ ap (option_and_then (λ p. multiply p f)) odd ∙ repeats.1)
+
+module _ (n : ℤ) (one : nat_abs n ≡ 1) (k : ℕ) (some : 1 ≤ k) where
+  pub one_even : k % 2 ≡ 0 → raised (whole n) k ≡ Some (whole (pos 1))
+  one_even even =
+      let j = (k / 2) - 1 in
+      let same : k ≡ suc (suc (j + j)) = omega (arith, some, even) in
+      rw same (one_pairs (whole n) (one_repeats n one) j).1
+
+  pub one_odd : ¬ (k % 2 ≡ 0) → raised (whole n) k ≡ Some (whole n)
+  one_odd odd =
+      let j = k / 2 in
+      let same : k ≡ suc (j + j) = omega (arith, some, odd) in
+      rw same (one_pairs (whole n) (one_repeats n one) j).0
 
 -- a further factor
 pub raised_more : (f p : Fraction) (k : ℕ) → 1 ≤ k → raised f k ≡ Some p → raised f (k + 1) ≡ multiply p f

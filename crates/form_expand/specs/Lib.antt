@@ -12,6 +12,7 @@ pub mod Kept
 pub mod Left
 pub mod Listing
 pub mod Literals
+pub mod LoneFunctions
 pub mod Lones
 pub mod Meanings
 pub mod Modes

@@ -29,7 +29,7 @@ pub fn wild_list<'a>(
     symbol: Id,
     is_over: bool,
     power: i128,
-) -> Result<(Whole<'a>, u32), AllocError>
+) -> Result<(Whole<'a>, u128), AllocError>
     requires { nat_abs power ≤ largest }
     ensures { IfOk result (λ found. listed found ≡ definition.wild_list names.now symbol is_over power) }
 {
@@ -46,18 +46,14 @@ fn expression_to<'a>(
     terms: Vec<Monomial>,
     is_over: bool,
     power: i128,
-) -> Result<(Whole<'a>, u32), AllocError>
+) -> Result<(Whole<'a>, u128), AllocError>
     ensures { (symbol : ℕ) → IfOk result (λ found. listed found ≡ definition.wild_list_by symbol is_over power (Some terms.items)) }
 {
     let size = power.unsigned_abs();
     if size == 0 {
         return Ok((Whole::single(Monomial::unit(alloc)), 1));
     }
-    // So many factors take more memory than there is.
-    if size > u32::MAX as u128 {
-        return Err(AllocError);
-    }
-    Ok((base_of(alloc, terms, is_over, power < 0)?, size as u32))
+    Ok((base_of(alloc, terms, is_over, power < 0)?, size))
 }
 
 /// The number that a wildcard stands for as a factor; none where it isn't one, or is 0.
@@ -137,7 +133,7 @@ fn inverted<'a>(alloc: Global, term: &Monomial) -> Result<Whole<'a>, AllocError>
 }
 
 /// Whether there is nothing besides symbols and dot products.
-fn is_invertible(term: &Term) -> bool
+pub fn is_invertible(term: &Term) -> bool
     ensures { result ≡ definition.is_invertible term.now }
 {
     !term.is_imaginary()
@@ -220,7 +216,7 @@ pub fn raised_list<'a>(
     names: &Standing,
     base: &Base,
     by: &Exponent,
-) -> Result<(Whole<'a>, u32), AllocError>
+) -> Result<(Whole<'a>, u128), AllocError>
     ensures { IfOk result (λ found. listed found
         ≡ definition.list_of_base names.now base.now by.now.is_over (definition.exponent_in names.now by.now.is_minus by.now.symbol)) }
 {
@@ -231,7 +227,7 @@ pub fn raised_list<'a>(
 }
 
 /// A list that is refused in place of a power.
-fn refused<'a>() -> (Whole<'a>, u32)
+fn refused<'a>() -> (Whole<'a>, u128)
     ensures { listed result ≡ definition.refused_power }
 {
     (Whole::refused(Cause::PowerRange), 1)
@@ -245,7 +241,7 @@ fn list_to<'a>(
     base: &Base,
     is_over: bool,
     exponent: i128,
-) -> Result<(Whole<'a>, u32), AllocError>
+) -> Result<(Whole<'a>, u128), AllocError>
     requires { nat_abs exponent ≤ largest }
     ensures { IfOk result (λ found. listed found ≡ definition.list_of_base names.now base.now is_over (Some exponent)) }
 {
@@ -270,16 +266,16 @@ fn list_to<'a>(
 }
 
 /// A list that has no inverse, to a power.
-fn raised<'a>(whole: Whole<'a>, exponent: i128) -> (Whole<'a>, u32)
+fn raised<'a>(whole: Whole<'a>, exponent: i128) -> (Whole<'a>, u128)
     ensures { listed result ≡ definition.raised (listing whole.entry) (Some exponent) }
 {
     match power_of(exponent) {
-        Some(power) => (whole, power),
+        Some(power) => (whole, power as u128),
         None => refused(),
     }
 }
 
-fn number_to<'a>(alloc: Global, number: u128, is_over: bool, exponent: i128) -> (Whole<'a>, u32)
+fn number_to<'a>(alloc: Global, number: u128, is_over: bool, exponent: i128) -> (Whole<'a>, u128)
     ensures { listed result ≡ definition.number_raised number is_over exponent }
 {
     if exponent.unsigned_abs() > LARGEST_POWER {

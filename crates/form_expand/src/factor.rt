@@ -1,4 +1,4 @@
-ghost use Rattle.std.specs.Prelude.{◌≡◌, ℕ, suc, IfOk, OnOk};
+ghost use Rattle.std.specs.Prelude.{◌≡◌, ◌≤◌, ℕ, suc, IfOk, OnOk};
 ghost use Rattle.std.specs.Bool.{OnTrue};
 ghost use Rattle.form_expand.specs.Bound.{powered, powered_by, refused_power};
 ghost use Rattle.form_expand.specs.Factors.{factor_left, factor_whole};
@@ -14,7 +14,7 @@ use crate::ended::Ended;
 use crate::function::Function;
 use crate::literal_sum::literal_sum;
 use crate::parenthesis::Parenthesis;
-use crate::power::Power;
+use crate::power::{Power, single_power};
 use crate::stored::Standing;
 use crate::walk::Walk;
 use crate::whole::Whole;
@@ -38,17 +38,45 @@ pub enum Factor<'a> {
 
 impl<'a> Factor<'a> {
     /// A list to a power.
-    pub fn new(alloc: Global, whole: Whole<'a>, power: u32) -> Result<Factor<'a>, AllocError>
-        ensures { IfOk result (λ factor. (max : ℕ) → factor_whole max factor ≡ powers max (listing whole.entry) power) }
+    pub fn new(
+        alloc: Global,
+        limit: u64,
+        whole: Whole<'a>,
+        power: u128,
+    ) -> Result<Factor<'a>, AllocError>
+        ensures { IfOk result (λ factor. factor_whole limit factor ≡ powers limit (listing whole.entry) power) }
     {
-        match power {
-            0 => Ok(Factor::Once(Walk::new(Whole::single(Monomial::unit(alloc))))),
-            1 => Ok(Factor::Once(Walk::new(whole))),
-            _ => {
-                let power = Power::new(alloc, whole, power - 1);
-                Ok(Factor::Power(Box::new(alloc, power)?))
-            }
+        if power == 0 {
+            return Ok(Factor::Once(Walk::new(Whole::single(Monomial::unit(alloc)))));
         }
+        if power == 1 {
+            return Ok(Factor::Once(Walk::new(whole)));
+        }
+        Factor::powered(alloc, limit, whole, power)
+    }
+
+    /// A list to a power of at least 2. A list without terms is its own power, and that of one term is multiplied at once.
+    fn powered(
+        alloc: Global,
+        limit: u64,
+        whole: Whole<'a>,
+        power: u128,
+    ) -> Result<Factor<'a>, AllocError>
+        requires { 2 ≤ power }
+        ensures { IfOk result (λ factor. factor_whole limit factor ≡ powers limit (listing whole.entry) power) }
+    {
+        if whole.terms().is_empty() {
+            return Ok(Factor::Once(Walk::new(whole)));
+        }
+        if let Some(made) = single_power(alloc, limit, &whole, power)? {
+            return Ok(Factor::Once(Walk::new(made)));
+        }
+        // So many factors take more memory than there is.
+        if power > u32::MAX as u128 {
+            return Err(AllocError);
+        }
+        let power = Power::new(alloc, whole, power as u32 - 1);
+        Ok(Factor::Power(Box::new(alloc, power)?))
     }
 
     /// The sum of these pieces to a power. It is read at once where it is one of at most `most` products of numbers and
@@ -67,7 +95,7 @@ impl<'a> Factor<'a> {
             return Ok(Factor::Once(Walk::new(Whole::single(Monomial::unit(alloc)))));
         }
         if let Some(terms) = literal_sum(alloc, stored, pieces, limit, most)? {
-            return Ok(Factor::new(alloc, Whole::made(terms), power)?);
+            return Ok(Factor::new(alloc, limit, Whole::made(terms), power as u128)?);
         }
         let parenthesis = Parenthesis::new(alloc, limit, stored, pieces, power - 1);
         Ok(Factor::Parenthesis(Box::new(alloc, parenthesis)?))

@@ -6,6 +6,8 @@
 //! term of the front before it (`parenthesis`), or a function, whose arguments are written out and collected when it is first
 //! asked for (`function`). So recursion goes as deep as parentheses and functions stand within one another.
 //!
+//! A term is multiplied by a right side that is one function at once, without a list (`lone_function`).
+//!
 //! Names go through what a match bound them to (`stored`, `value`): a symbol to the list of an expression, and a power to a
 //! whole number (`bound`, `ended`), an index, a vector and a function to others, and a field to arguments.
 #![tactic(auto)]
@@ -21,6 +23,7 @@ pub mod laws;
 mod literal;
 mod literal_arguments;
 mod literal_sum;
+mod lone_function;
 mod number;
 mod number_sum;
 mod parenthesis;
@@ -41,6 +44,7 @@ mod whole;
 pub use argument::argument_pieces;
 pub use error::ExpandError;
 pub use expansion::{Expansion, expand_tree, whole_list};
+pub use lone_function::{Timed, times_lone_function};
 pub use row::{Part, Row, alone_times};
 pub use stored::{Standing, Stored, Terms};
 pub use whole::Whole;

@@ -1,6 +1,7 @@
 //! Products that are one term, each read into that term: of numbers, symbols, wildcards that stand for a number, and functions
 //! whose arguments are sums of few such products.
 ghost use Rattle.std.specs.Prelude.{◌≡◌, true, [], ◌∷◌, Some, None, Ok, IfOk, IfSome};
+ghost use Rattle.form_normal.specs.Factors.{HasRoom};
 ghost use Rattle.form_expand.specs.Bound.{wild_list};
 ghost use Rattle.form_expand.specs.Closings.{closing_at};
 ghost use Rattle.form_expand.specs.declared.ended.Ended.TheVariants as ends;
@@ -18,7 +19,7 @@ use crate::reader::{begins, closing, is_subtracted};
 use crate::stored::Standing;
 use form_base::Id;
 use form_normal::{
-    ProductError, laws, multiply_by_number, multiply_by_power, times_function, times_word,
+    ProductError, has_room, laws, multiply_by_number, multiply_by_power, times_function, times_word,
 };
 use form_term::{Call, Monomial, Power};
 use form_tree::Piece;
@@ -217,7 +218,7 @@ fn take_function<'a>(
 }
 
 /// How many pieces there are before the one that ends what is open before them, where its power is 1.
-fn closing_once(pieces: &[Piece]) -> Option<usize>
+pub fn closing_once(pieces: &[Piece]) -> Option<usize>
     ensures { IfSome result (λ len. closing_at 0 0 pieces.now ≡ Some (len, ends.Power 1)) }
 {
     match closing(pieces) {
@@ -234,24 +235,23 @@ fn take_call(
 ) -> Result<bool, AllocError>
     ensures { result ≡ Ok true → IsTimes (list_of_call is_commuting call) front.old front.new }
 {
-    let old = mem::replace(front, Monomial::unit(alloc));
-    match with_call(alloc, old, call, is_commuting)? {
-        Some(term) => {
-            *front = term;
-            Ok(true)
-        }
-        None => Ok(false),
+    if !has_room(front, &call) {
+        return Ok(false);
     }
+    let old = mem::replace(front, Monomial::unit(alloc));
+    *front = with_call(alloc, old, call, is_commuting)?;
+    Ok(true)
 }
 
-/// A term times a function.
+/// A term times a function for which it has room.
 fn with_call(
     alloc: Global,
     front: Monomial,
     call: Call,
     is_commuting: bool,
-) -> Result<Option<Monomial>, AllocError>
-    ensures { IfOk result (λ made. IfSome made (λ term. IsTimes (list_of_call is_commuting call) front term)) }
+) -> Result<Monomial, AllocError>
+    requires { HasRoom front.term call }
+    ensures { IfOk result (λ term. IsTimes (list_of_call is_commuting call) front term) }
 {
     if is_commuting {
         times_function(alloc, front, call)

@@ -1,5 +1,5 @@
 //! Arguments of functions that are sums of few products, each of which is one term.
-ghost use Rattle.std.specs.Prelude.{◌≡◌, ◌++◌, IfOk, IfSome};
+ghost use Rattle.std.specs.Prelude.{◌≡◌, ◌≤◌, ◌*◌, ◌++◌, IfOk, IfSome, length};
 ghost use Rattle.form_term.specs.Term.{pieces_of_argument};
 ghost use Rattle.form_normal.specs.Product.{number_alone as number_alone_of};
 ghost use Rattle.form_expand.specs.Bound.{wild_list};
@@ -35,8 +35,7 @@ pub fn literal_arguments(
 ) -> Result<Option<Arguments>, AllocError>
     ensures { IfOk result (λ found. IfSome found (λ arguments. AreArgued limit names.now pieces.now arguments)) }
 {
-    let room = pieces.len().min(MOST_PIECES);
-    let mut arguments = Arguments::with_capacity(alloc, room + room / 2)?;
+    let mut arguments = Arguments::with_capacity(alloc, room_for(pieces))?;
     let mut rest = pieces;
     while !rest.is_empty() {
         let Some((read, behind)) = read_one(alloc, names, arguments, rest, limit, deeper)? else {
@@ -46,6 +45,23 @@ pub fn literal_arguments(
         rest = behind;
     }
     Ok(Some(arguments))
+}
+
+/// Room for arguments that have these pieces, where they are few: a symbol takes one piece more than here.
+fn room_for(pieces: &[Piece]) -> usize
+    ensures few { result ≤ 2 * length pieces.now }
+    ensures most { result ≤ 2 * 64 }
+{
+    if pieces.len() > MOST_PIECES {
+        return MOST_PIECES;
+    }
+    let mut room = pieces.len();
+    for piece in pieces {
+        if let Piece::Symbol { .. } = piece {
+            room += 1;
+        }
+    }
+    room
 }
 
 /// Reads the argument that these pieces begin with. Answers the arguments with it, and the pieces behind it.

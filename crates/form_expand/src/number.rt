@@ -1,11 +1,11 @@
-ghost use Rattle.std.specs.Prelude.{◌≡◌, ◌≤◌, pos, negsuc, IfOk, IfSome, if◌then◌else◌};
+ghost use Rattle.std.specs.Prelude.{◌≡◌, ◌≤◌, Some, pos, negsuc, nat_abs, IfOk, IfSome, if◌then◌else◌};
 ghost use Rattle.std.specs.Option.{ok_or};
 ghost use Rattle.form_frac.specs.Fraction.{make, largest, IsLowest};
 ghost use Rattle.form_frac.specs.declared.frac_error.FracError.TheVariants.{Overflow};
 ghost use Rattle.form_normal.specs.Product.{number_alone as number_alone_of};
 ghost use Rattle.form_expand.specs.Kept.{listing};
 ghost use Rattle.form_expand.specs.Listing.{single};
-ghost use Rattle.form_expand.specs.Numbers.{raised as raised_of, of_fraction as of_fraction_of, number_list as number_list_of, symbol_list as symbol_list_of};
+ghost use Rattle.form_expand.specs.Numbers.{raised as raised_of, of_coefficient, of_fraction as of_fraction_of, number_list as number_list_of, symbol_list as symbol_list_of};
 
 use crate::whole::Whole;
 use form_base::{Cause, Id};
@@ -71,7 +71,7 @@ fn number_raised(value: u128, power: i32) -> Option<Frac>
     if base.is_zero() {
         return None;
     }
-    let number = raised(base, size).ok()?;
+    let number = raised(base, size as u128).ok()?;
     let _ = number.numerator();
     Some(number)
 }
@@ -99,19 +99,48 @@ fn of_fraction<'a>(alloc: Global, base: Result<Frac, FracError>, power: u32) -> 
             if base.is_zero() {
                 return Whole::nothing();
             }
-            match raised(base, power) {
-                Ok(coefficient) => Whole::single(Monomial {
-                    coefficient,
-                    term: Term::one(alloc),
-                }),
-                Err(_) => Whole::refused(Cause::Overflow),
-            }
+            fraction_list(alloc, base, power as u128)
         }
     }
 }
 
-/// A fraction to a power.
-fn raised(base: Frac, power: u32) -> Result<Frac, FracError>
+/// The list of a fraction to a power.
+pub fn fraction_list<'a>(alloc: Global, base: Frac, power: u128) -> Whole<'a>
+    requires { 1 ≤ power }
+    ensures { listing result ≡ of_coefficient (raised_of base power) }
+{
+    match raised(base, power) {
+        Ok(coefficient) => Whole::single(Monomial {
+            coefficient,
+            term: Term::one(alloc),
+        }),
+        Err(_) => Whole::refused(Cause::Overflow),
+    }
+}
+
+/// A fraction to a power. Any but 1, -1 and 0 is out of range after a few factors.
+fn raised(base: Frac, power: u128) -> Result<Frac, FracError>
+    requires { 1 ≤ power }
+    ensures { result ≡ ok_or (raised_of base power) Overflow }
+{
+    if base.numerator_size() == 1 && base.is_whole() {
+        return Ok(one_raised(base, power));
+    }
+    multiplied(base, power)
+}
+
+/// The same of 1 or -1.
+fn one_raised(base: Frac, power: u128) -> Frac
+    requires some { 1 ≤ power }
+    requires one { nat_abs base.numerator ≡ 1 }
+    requires whole { base.denominator ≡ 1 }
+    ensures { raised_of base power ≡ Some result }
+{
+    if power % 2 == 0 { Frac::one() } else { base }
+}
+
+/// The same, factor by factor.
+fn multiplied(base: Frac, power: u128) -> Result<Frac, FracError>
     requires { 1 ≤ power }
     ensures { result ≡ ok_or (raised_of base power) Overflow }
 {

@@ -1,17 +1,72 @@
-ghost use Rattle.std.specs.Prelude.{◌≡◌, ◌++◌, ℕ, Some, None, OnOk, map, option_to_list};
+ghost use Rattle.std.specs.Prelude.{◌≡◌, ◌≤◌, ◌++◌, ℕ, Some, None, IfOk, IfSome, OnOk, map, option_to_list};
+ghost use Rattle.std.specs.Bool.{OnTrue};
+ghost use Rattle.form_term.specs.Term.{one};
 ghost use Rattle.form_expand.specs.Kept.{listing};
 ghost use Rattle.form_expand.specs.Left.{times_by};
+ghost use Rattle.form_expand.specs.Listing.{limited, powers, single};
 ghost use Rattle.form_expand.specs.Next.{Gives, Goes, Takes};
 ghost use Rattle.form_expand.specs.Walks.{opened_list, step_level, power_left, power_whole};
 
 use crate::ExpandError;
+use crate::bound::is_invertible;
+use crate::number::fraction_list;
 use crate::progress::Progress;
-use crate::times::{times, times_owned};
+use crate::times::{times, times_onto, times_owned};
 use crate::whole::Whole;
 use form_base::Cause;
-use form_term::Monomial;
+use form_term::{Monomial, Term};
 use std::alloc::{AllocError, Global};
 use std::mem;
+
+/// A list of one term to a power, as a list; none where it has more.
+pub fn single_power<'a>(
+    alloc: Global,
+    limit: u64,
+    whole: &Whole,
+    power: u128,
+) -> Result<Option<Whole<'a>>, AllocError>
+    requires { 1 ≤ power }
+    ensures { IfOk result (λ found. IfSome found (λ made. limited limit (listing made) ≡ powers limit (listing whole.now) power)) }
+{
+    if !whole.is_alone(limit) {
+        return Ok(None);
+    }
+    let [term] = whole.terms() else {
+        return Ok(None);
+    };
+    if is_one(&term.term) {
+        return Ok(Some(fraction_list(alloc, term.coefficient, power)));
+    }
+    // Powers of `i_` come round again: the products wouldn't end in a refusal, nor in any time.
+    if term.term.is_imaginary() && power > u32::MAX as u128 {
+        return Err(AllocError);
+    }
+    Ok(Some(term_power(alloc, term, power)?))
+}
+
+/// The list of a term to a power, product by product.
+fn term_power<'a>(alloc: Global, term: &Monomial, power: u128) -> Result<Whole<'a>, AllocError>
+    requires { 1 ≤ power }
+    ensures { IfOk result (λ made. (max : ℕ) → 1 ≤ max → listing made ≡ powers max (single term.now) power) }
+{
+    let mut made = term.clone()?;
+    for _count in 1..power {
+        match times_onto(alloc, made, term) {
+            Ok(Some(next)) => made = next,
+            Ok(None) => return Ok(Whole::nothing()),
+            Err(ExpandError::Refused(cause)) => return Ok(Whole::refused(cause)),
+            Err(ExpandError::Memory) => return Err(AllocError),
+        }
+    }
+    Ok(Whole::single(made))
+}
+
+/// Whether a term has no factors.
+fn is_one(term: &Term) -> bool
+    ensures { OnTrue result (term.now ≡ one) }
+{
+    term.powers().is_empty() && term.dots().is_empty() && is_invertible(term)
+}
 
 /// A factor of a power that terms are being taken from.
 #[derive(Drop)]

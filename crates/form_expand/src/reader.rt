@@ -147,7 +147,7 @@ fn read_factor<'a>(
     ensures shorter { IfOk result (λ rest. length rest.now ≤ length more.now) }
 {
     if let Some((whole, power)) = piece_list(alloc, piece, stored)? {
-        factors.push(Factor::new(alloc, whole, power)?)?;
+        factors.push(Factor::new(alloc, limit, whole, power)?)?;
         return Ok(more);
     }
     match piece {
@@ -175,7 +175,7 @@ fn piece_list<'a>(
     alloc: Global,
     piece: &Piece,
     stored: &'a Standing,
-) -> Result<Option<(Whole<'a>, u32)>, AllocError>
+) -> Result<Option<(Whole<'a>, u128)>, AllocError>
     ensures { IfOk result (λ found. listed_alone found ≡ list_of_piece stored.now piece.now) }
 {
     let found = match piece {
@@ -192,8 +192,8 @@ fn piece_list<'a>(
             expression,
             power,
             ..
-        } => (stored_list(stored, *expression), *power),
-        Piece::Imaginary { power, .. } => (imaginary_list(alloc)?, *power),
+        } => (stored_list(stored, *expression), *power as u128),
+        Piece::Imaginary { power, .. } => (imaginary_list(alloc)?, *power as u128),
         Piece::Dot {
             left,
             right,
@@ -207,7 +207,10 @@ fn piece_list<'a>(
             component,
             power,
             ..
-        } => (component_list(alloc, stored.component(*component))?, *power),
+        } => (
+            component_list(alloc, stored.component(*component))?,
+            *power as u128,
+        ),
         Piece::Delta {
             first,
             second,
@@ -215,7 +218,7 @@ fn piece_list<'a>(
             ..
         } => {
             let (first, second) = (stored.index(*first), stored.index(*second));
-            (delta_list(alloc, first, second)?, *power)
+            (delta_list(alloc, first, second)?, *power as u128)
         },
         _ => return Ok(None),
     };

@@ -16,12 +16,26 @@ pub fn times(
     ensures { IsMade result (product_by left.now term.now) }
 {
     match left {
-        Some(left) => Ok(product(alloc, left, term)?),
+        Some(left) => times_left(alloc, left, term),
         None => Ok(Some(Monomial {
             coefficient: term.coefficient,
             term: term.term.clone()?,
         })),
     }
+}
+
+/// A front times a term. A number or a function goes onto a copy of the front.
+fn times_left(
+    alloc: Global,
+    left: &Monomial,
+    term: &Monomial,
+) -> Result<Option<Monomial>, ExpandError>
+    ensures { IsMade result (product_of left.now term.now) }
+{
+    if term.term.powers().is_empty() && term.term.functions().len() < 2 {
+        return times_onto(alloc, left.clone()?, term);
+    }
+    Ok(product(alloc, left, term)?)
 }
 
 /// The same with a front of the caller's own.

@@ -1,4 +1,4 @@
-ghost use Rattle.std.specs.Prelude.{◌≡◌, ℕ, OnOk, Some};
+ghost use Rattle.std.specs.Prelude.{◌≡◌, ◌↔◌, ℕ, IsTrue, OnOk, Some};
 ghost use Rattle.std.specs.Bool.{OnTrue};
 ghost use Rattle.form_expand.specs.Listing.{nothing};
 ghost use Rattle.form_expand.specs.Left.{times_by};
@@ -49,7 +49,7 @@ impl<'a> Walk<'a> {
 
     /// Whether it has one term left, and isn't refused before or behind it.
     pub fn has_one(&self, limit: u64) -> bool
-        ensures { OnTrue result (HasOne limit self.now) }
+        ensures { IsTrue result ↔ HasOne limit self.now }
     {
         self.whole.end.is_none()
             && self.whole.len().saturating_sub(self.place) == 1

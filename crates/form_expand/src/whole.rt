@@ -1,5 +1,4 @@
-ghost use Rattle.std.specs.Prelude.{◌≡◌, ◌+◌, ◌<◌, ◌^◌, Some, None, is_some, OnSome, length};
-ghost use Rattle.std.specs.Bool.{OnTrue};
+ghost use Rattle.std.specs.Prelude.{◌≡◌, ◌↔◌, ◌+◌, ◌<◌, ◌^◌, Some, None, is_some, IsTrue, OnSome, length};
 ghost use Rattle.form_expand.specs.Listing.{nothing, single, refusal};
 ghost use Rattle.form_expand.specs.Kept.{kept_terms, listing, end_of, ended_by, BeginsAt};
 ghost use Rattle.form_expand.specs.Walks.{IsAlone};
@@ -125,7 +124,7 @@ impl Whole<'_> {
 
     /// Whether it has one term, isn't refused behind it, and may have one.
     pub fn is_alone(&self, limit: u64) -> bool
-        ensures { OnTrue result (IsAlone limit self.now) }
+        ensures { IsTrue result ↔ IsAlone limit self.now }
     {
         limit != 0 && self.end.is_none() && self.len() == 1
     }

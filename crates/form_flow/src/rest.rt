@@ -19,7 +19,10 @@ ghost use Rattle.form_flow.specs.Rewriting.{Part as AsTrees, and_part as and_par
 use crate::between::{Inserted, all_bound, is_any_by_match, places, put_between, row_of};
 use crate::compiled::{CompiledPart, Group};
 use form_base::Cause;
-use form_expand::{ExpandError, Part, Row, Standing, Whole, alone_times, laws, whole_list};
+use form_expand::{
+    ExpandError, Part, Row, Standing, Timed, Whole, alone_times, laws, times_lone_function,
+    whole_list,
+};
 use form_frac::Frac;
 use form_match::Bindings;
 use form_rewrite::{Single, Take, Taken, take_out};
@@ -192,9 +195,44 @@ fn times_right_side<'a>(
 {
     laws::lists_of_trees();
     let Some(names) = bound(alloc, bindings) else {
-        return pair(alloc, limit, left, Part::Tree(right, nothing));
+        return times_tree(alloc, limit, right, nothing, left);
     };
-    let whole = whole_list(alloc, right, limit, &names)?;
+    match times_lone_function(alloc, left, right, limit, &names)? {
+        Timed::Made(item) => Ok(Applied::One(item)),
+        Timed::Same(left) => times_list(alloc, limit, right, left, &names),
+    }
+}
+
+/// A term, and a right side behind it in which nothing is bound.
+#[inline(never)]
+fn times_tree<'a>(
+    alloc: Global,
+    limit: u64,
+    right: &'a [Piece],
+    nothing: &'a Standing,
+    left: Monomial,
+) -> Result<Applied<'a>, AllocError>
+    ensures { (s : Sum) → right.now ≡ pieces_of_sum s →
+        IfOk result (λ applied. IsPut (row limit (single left ∷ list_of_sum limit nothing.now s ∷ [])) applied) }
+{
+    laws::lists_of_trees();
+    pair(alloc, limit, left, Part::Tree(right, nothing))
+}
+
+/// A term, and a right side by what names stand for behind it.
+#[inline(never)]
+fn times_list<'a>(
+    alloc: Global,
+    limit: u64,
+    right: &'a [Piece],
+    left: Monomial,
+    names: &Standing,
+) -> Result<Applied<'a>, AllocError>
+    ensures { (s : Sum) → right.now ≡ pieces_of_sum s →
+        IfOk result (λ applied. IsPut (row limit (single left ∷ list_of_sum limit names.now s ∷ [])) applied) }
+{
+    laws::lists_of_trees();
+    let whole = whole_list(alloc, right, limit, names)?;
     if whole.is_alone(limit) {
         return times_alone(alloc, limit, left, &whole);
     }

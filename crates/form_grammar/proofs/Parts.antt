@@ -1,6 +1,6 @@
 -- Reading a right side that comes token by token.
 use Rattle.std.proofs.Common.{◌≡◌, List, [], ◌∷◌, ◌++◌, Bool, true, false, Some, None, Result, Ok, Err, sym, ap, ◌∙◌, append_assoc}
-use Rattle.std.specs.Prelude.{IfOk, IfErr, option_and_then}
+use Rattle.std.specs.Prelude.{IfOk, IfErr, OnOk, option_and_then}
 use Rattle.std.proofs.lemmas.List.{append-nil}
 use Rattle.form_ast.specs.declared.expr.Piece.{Piece}
 use Rattle.form_ast.specs.declared.setting.Setting.TheVariants.{Plain}
@@ -11,7 +11,7 @@ use Rattle.form_grammar.specs.declared.right_side.RightSide.{RightSide}
 use Rattle.form_grammar.specs.declared.terminal.Terminal.{Terminal}
 use Rattle.form_grammar.specs.Grammar.{IsExpr}
 use Rattle.form_grammar.specs.Parts.{HasRead, pieces_with}
-use Rattle.form_grammar.specs.Reading.{Reading as Readings, Gives, Excludes, begun, finished, reading_of, run, step}
+use Rattle.form_grammar.specs.Reading.{Reading as Readings, Gives, IsUnread, Excludes, begun, finished, reading_of, run, step}
 use Rattle.form_grammar.proofs.Read.{found, none}
 
 -- one terminal further
@@ -44,9 +44,16 @@ module _ (r next : Reader) (t : Terminal) where
       → (rest : List Terminal) → pieces_with (record { reader = r; has_failed = has_failed }) (t ∷ rest) ≡ pieces_with (record { reader = next; has_failed = has_failed }) rest
   taken has_failed on e rest = rw on (step_taken (reading_of r) (reading_of next) t rest e)
 
-  pub failing : (has_failed : Bool) → has_failed ≡ false → step Plain (reading_of r) t ≡ None
-      → (rest : List Terminal) → pieces_with (record { reader = r; has_failed = has_failed }) (t ∷ rest) ≡ pieces_with (record { reader = next; has_failed = true }) rest
-  failing has_failed on e rest = rw on (step_refused (reading_of r) t rest e)
+-- nothing that follows what isn't read makes a right side of it
+failing : (old new : RightSide) (t : Terminal) → old.has_failed ≡ false → new.has_failed ≡ true → step Plain (reading_of old.reader) t ≡ None
+    → (rest : List Terminal) → pieces_with old (t ∷ rest) ≡ pieces_with new rest
+failing old new t on off e rest = rw (on, off) (step_refused (reading_of old.reader) t rest e)
+
+pub fails : (old new : RightSide) (t : Terminal) (error : ReadError) → old.has_failed ≡ false → IsUnread error (step Plain (reading_of old.reader) t)
+    → {E : Type 0} (r : Result (Unit {0}) E) → OnOk r (error ≡ BadSyntax) → OnOk r (new.has_failed ≡ true)
+    → OnOk r ((read : List Terminal) → HasRead read old → HasRead (read ++ t ∷ []) new)
+fails old new t error on unread (Ok u) e off = goes_on old new t (failing old new t on off (rw e at unread))
+fails old new t error on unread (Err _) e off = tt
 
 pub ends_here : (r : RightSide) (o : Result (List Piece) ReadError) → r.has_failed ≡ false → Gives (λ pieces. pieces) o (finished (reading_of r.reader)) → Gives (λ pieces. pieces) o (pieces_with r [])
 unfolding run

@@ -1,12 +1,15 @@
 ghost use Rattle.std.specs.Prelude.{◌≡◌, None, false, map};
-ghost use Rattle.form_grammar.specs.declared.effect.Expected.TheVariants.{Exponent};
+ghost use Rattle.form_ast.specs.declared.expr.Named.TheVariants.{Declared};
+ghost use Rattle.form_ast.specs.declared.expr.Piece.TheVariants as by_piece;
+ghost use Rattle.form_grammar.specs.declared.effect.Expected.TheVariants.{Exponent, Operator};
+ghost use Rattle.form_grammar.specs.declared.effect.Last.TheVariants as by_last;
 ghost use Rattle.std.specs.Vec.Iter.{into_iter_items};
 ghost use Rattle.form_grammar.specs.declared.effect.Effect.TheVariants.{Adds, Waits, Changes, Opens, Encloses, Calls, Closes, Parts, Dots};
 ghost use Rattle.form_grammar.specs.declared.terminal.Terminal.TheVariants as by_terminal;
 ghost use Rattle.form_lexer.specs.Reading.{kind_of};
 ghost use Rattle.form_grammar.specs.Effect.{effect_of as effect_at, operator_effect as operator_effect_of, raise_effect as raise_effect_of, call_effect as call_effect_of};
 ghost use Rattle.form_grammar.specs.Reading.{Gives, applied, begun, changed as changed_by, changed_reading, finished, restriction_in, reading_of, room_for, run as run_from, step, with_name as with_name_of, with_number as with_number_of, with_set as with_set_of};
-ghost use Rattle.form_grammar.specs.Terminal.{kind_terminal, mark_terminal as mark_terminal_of, terminal_of};
+ghost use Rattle.form_grammar.specs.Terminal.{built_in_terminal, kind_terminal, mark_terminal as mark_terminal_of, terminal_of};
 
 use crate::ReadError;
 use crate::brackets::{Bracket, Brackets};
@@ -15,11 +18,11 @@ use crate::effect::{
 };
 use crate::terminal::{Terminal, mark_terminal};
 use form_ast::{
-    Expr, Link, NameList, Named, Number, NumberList, Piece, Restriction, Setting, SignedNumber,
-    Spelled,
+    Expr, Link, NameList, Named, Number, NumberList, Piece, Restriction, Setting, Sign,
+    SignedNumber, Spelled,
 };
 use form_base::{Name, Spot};
-use form_lexer::{Mark, Shape, Token, kind};
+use form_lexer::{BuiltIn, Mark, Shape, Token, TokenKind};
 use std::alloc::Global;
 use std::mem::replace;
 use std::vec::IntoIter;
@@ -49,6 +52,7 @@ fn dotted(piece: Piece) -> Result<Piece, ReadError>
 }
 
 /// A name that has arguments, where the piece is a name and doesn't stand behind `/`.
+#[inline(always)]
 fn called(piece: Piece) -> Result<Piece, ReadError>
     ensures { Gives (λ piece. piece) result (changed_by Change.Call piece) }
 {
@@ -100,6 +104,28 @@ fn with_number(
     };
     numbers.push(number)?;
     Ok(Restriction::Numbers(NumberList::from_vec(numbers)))
+}
+
+/// Whether the piece is a name that may have arguments.
+fn may_be_called(piece: &Piece) -> bool
+    ensures { result ≡ false → changed_by Change.Call piece.now ≡ None }
+{
+    match piece {
+        Piece::Name(Link::Over, _) => false,
+        Piece::Name(_, _) => true,
+        _ => false,
+    }
+}
+
+/// A name has arguments, where the piece is one. It is looked at first, so that nothing else is moved.
+fn call_piece(piece: &mut Piece) -> Result<(), ReadError>
+    ensures { Gives (λ _. piece.new) result (changed_by Change.Call piece.old) }
+{
+    if !may_be_called(piece) {
+        return Err(ReadError::BadSyntax);
+    }
+    *piece = called(replace(piece, Piece::Comma))?;
+    Ok(())
 }
 
 /// What restricts a wildcard, where the piece is its mark.
@@ -181,9 +207,7 @@ impl Reader {
             return Err(ReadError::BadSyntax);
         }
         self.opened.push(Bracket::Parenthesis)?;
-        self.pieces.push(Piece::Open(link))?;
-        self.expected = Expected::Factor(Link::First);
-        Ok(())
+        self.add_slowly(Piece::Open(link), Expected::Factor(Link::First))
     }
 
     /// Opens another parenthesis, in which this is expected.
@@ -197,20 +221,34 @@ impl Reader {
         Ok(())
     }
 
+    /// The piece that has so many behind it has arguments.
+    #[inline(always)]
+    fn call_name(&mut self, behind: usize) -> Result<(), ReadError>
+        ensures { Gives (λ _. reading_of self.new) result (changed_reading behind Change.Call (reading_of self.old)) }
+    {
+        let count = self.pieces.len();
+        if count <= behind {
+            return Err(ReadError::BadSyntax);
+        }
+        call_piece(&mut self.pieces[count - 1 - behind])
+    }
+
     /// Opens the arguments of the last name, which has a mark or not.
+    #[inline(never)]
     fn call(&mut self, is_marked: bool) -> Result<(), ReadError>
         ensures { Gives (λ _. reading_of self.new) result (applied (reading_of self.old) (Calls is_marked)) }
     {
         if !self.has_room() {
             return Err(ReadError::BadSyntax);
         }
-        self.change(usize::from(is_marked), Change::Call)?;
+        self.call_name(usize::from(is_marked))?;
         self.opened.push(Bracket::Arguments)?;
         self.expected = Expected::Argument;
         Ok(())
     }
 
     /// Closes what is open.
+    #[inline(never)]
     fn close(&mut self) -> Result<(), ReadError>
         ensures { Gives (λ _. reading_of self.new) result (applied (reading_of self.old) Closes) }
     {
@@ -219,21 +257,18 @@ impl Reader {
             Some(Bracket::Arguments) => Piece::EndOfCall,
             None => return Err(ReadError::BadSyntax),
         };
-        self.pieces.push(piece)?;
-        self.expected = Expected::Operator(Last::Enclosed);
-        Ok(())
+        self.add(piece, Expected::Operator(Last::Enclosed))
     }
 
     /// Goes on to a further argument.
+    #[inline(never)]
     fn part(&mut self) -> Result<(), ReadError>
         ensures { Gives (λ _. reading_of self.new) result (applied (reading_of self.old) Parts) }
     {
         if !self.opened.are_arguments() {
             return Err(ReadError::BadSyntax);
         }
-        self.pieces.push(Piece::Comma)?;
-        self.expected = Expected::FurtherArgument;
-        Ok(())
+        self.add(Piece::Comma, Expected::FurtherArgument)
     }
 
     /// Begins a dot product with the last name, which has a mark or not.
@@ -250,10 +285,7 @@ impl Reader {
     {
         match effect {
             Effect::Waits(expected) => self.expected = expected,
-            Effect::Adds(piece, expected) => {
-                self.pieces.push(piece)?;
-                self.expected = expected;
-            }
+            Effect::Adds(piece, expected) => self.add_slowly(piece, expected)?,
             Effect::Changes(change, expected) => self.change_last(change, expected)?,
             Effect::Opens(link) => self.open(link)?,
             Effect::Encloses(expected) => self.enclose(expected)?,
@@ -274,6 +306,7 @@ impl Reader {
     }
 
     /// Goes one piece further, behind which this is expected.
+    #[inline(always)]
     fn add(&mut self, piece: Piece, expected: Expected) -> Result<(), ReadError>
         ensures { Gives (λ _. reading_of self.new) result (applied (reading_of self.old) (Adds piece expected)) }
     {
@@ -282,90 +315,191 @@ impl Reader {
         Ok(())
     }
 
+    /// The same of a piece that is rare.
+    #[inline(never)]
+    fn add_slowly(&mut self, piece: Piece, expected: Expected) -> Result<(), ReadError>
+        ensures { Gives (λ _. reading_of self.new) result (applied (reading_of self.old) (Adds piece expected)) }
+    {
+        self.add(piece, expected)
+    }
+
+    /// A number as a factor, behind which an operator is expected.
+    #[inline(never)]
+    fn add_number(&mut self, link: Link, value: u128, spot: Spot) -> Result<(), ReadError>
+        ensures { Gives (λ _. reading_of self.new) result (applied (reading_of self.old) (Adds (by_piece.Number link (record { value = value; spot = spot })) (Operator by_last.Base))) }
+    {
+        self.add(
+            Piece::Number(link, Number { value, spot }),
+            Expected::Operator(Last::Base),
+        )
+    }
+
+    /// The number of a power that stands outside parentheses.
+    #[inline(never)]
+    fn add_power(&mut self, sign: Option<Sign>, value: u128, spot: Spot) -> Result<(), ReadError>
+        ensures { Gives (λ _. reading_of self.new) result (applied (reading_of self.old) (Adds (by_piece.Raised false sign (record { value = value; spot = spot })) (Operator by_last.Power))) }
+    {
+        self.add(
+            Piece::Raised(false, sign, Number { value, spot }),
+            Expected::Operator(Last::Power),
+        )
+    }
+
     /// Goes one number further where this is expected: the commonest ways at once.
+    #[inline(always)]
     fn take_number(
         &mut self,
         setting: Setting,
         expected: Expected,
-        number: Number,
+        value: u128,
+        spot: Spot,
     ) -> Result<(), ReadError>
-        ensures { Gives (λ _. reading_of self.new) result (applied (reading_of self.old) (effect_at setting expected (by_terminal.Number number))) }
+        requires { expected ≡ self.old.expected }
+        ensures { Gives (λ _. reading_of self.new) result (applied (reading_of self.old) (effect_at setting expected (by_terminal.Number (record { value = value; spot = spot })))) }
     {
         match expected {
-            Expected::Factor(link) => self.add(
-                Piece::Number(link, number),
-                Expected::Operator(Last::Base),
-            ),
-            Expected::Argument => self.add(
-                Piece::Number(Link::First, number),
-                Expected::Operator(Last::Base),
-            ),
+            Expected::Factor(link) => self.add_number(link, value, spot),
+            Expected::Argument => self.add_number(Link::First, value, spot),
             Expected::Exponent {
                 is_on_enclosed: false,
                 is_parenthesized: false,
-                sign: None,
-            } => self.add(
-                Piece::Raised(false, None, number),
-                Expected::Operator(Last::Power),
-            ),
-            _ => self.apply(effect_of(setting, expected, Terminal::Number(number))),
+                sign,
+            } => self.add_power(sign, value, spot),
+            _ => self.take_number_slowly(setting, value, spot),
         }
     }
 
+    /// The same of any number.
+    #[inline(never)]
+    fn take_number_slowly(
+        &mut self,
+        setting: Setting,
+        value: u128,
+        spot: Spot,
+    ) -> Result<(), ReadError>
+        ensures { Gives (λ _. reading_of self.new) result (applied (reading_of self.old) (effect_at setting self.old.expected (by_terminal.Number (record { value = value; spot = spot })))) }
+    {
+        let number = Number { value, spot };
+        self.apply(effect_of(setting, self.expected, Terminal::Number(number)))
+    }
+
+    /// A name as a factor, behind which an operator is expected.
+    #[inline(never)]
+    fn add_name(&mut self, link: Link, text: &str, spot: Spot) -> Result<(), ReadError>
+        ensures { Gives (λ _. reading_of self.new) result (applied (reading_of self.old) (Adds (by_piece.Name link (Declared (record { name = text.now; spot = spot }))) (Operator by_last.Name))) }
+    {
+        let name = Name::new(self.alloc, text)?;
+        self.add(
+            Piece::Name(link, Named::Declared(Spelled { name, spot })),
+            Expected::Operator(Last::Name),
+        )
+    }
+
     /// Goes one name further where this is expected.
+    #[inline(always)]
     fn take_name(
         &mut self,
         setting: Setting,
         expected: Expected,
-        name: Spelled,
+        text: &str,
+        spot: Spot,
     ) -> Result<(), ReadError>
-        ensures { Gives (λ _. reading_of self.new) result (applied (reading_of self.old) (effect_at setting expected (by_terminal.Name name))) }
+        requires { expected ≡ self.old.expected }
+        ensures { Gives (λ _. reading_of self.new) result (applied (reading_of self.old) (effect_at setting expected (by_terminal.Name (record { name = text.now; spot = spot })))) }
     {
         match expected {
-            Expected::Factor(link) => self.add(
-                Piece::Name(link, Named::Declared(name)),
-                Expected::Operator(Last::Name),
-            ),
-            Expected::FurtherArgument => self.add(
-                Piece::Name(Link::First, Named::Declared(name)),
-                Expected::Operator(Last::Name),
-            ),
-            _ => self.apply(effect_of(setting, expected, Terminal::Name(name))),
+            Expected::Factor(link) => self.add_name(link, text, spot),
+            Expected::Argument => self.add_name(Link::First, text, spot),
+            Expected::FurtherArgument => self.add_name(Link::First, text, spot),
+            _ => self.take_name_slowly(setting, text, spot),
         }
     }
 
+    /// The same of any name.
+    #[inline(never)]
+    fn take_name_slowly(
+        &mut self,
+        setting: Setting,
+        text: &str,
+        spot: Spot,
+    ) -> Result<(), ReadError>
+        ensures { Gives (λ _. reading_of self.new) result (applied (reading_of self.old) (effect_at setting self.old.expected (by_terminal.Name (record { name = text.now; spot = spot })))) }
+    {
+        let name = Name::new(self.alloc, text)?;
+        self.apply(effect_of(
+            setting,
+            self.expected,
+            Terminal::Name(Spelled { name, spot }),
+        ))
+    }
+
     /// Goes one mark further where this is expected.
+    #[inline(always)]
     fn take_mark(
         &mut self,
         setting: Setting,
         expected: Expected,
         mark: Mark,
     ) -> Result<(), ReadError>
+        requires { expected ≡ self.old.expected }
         ensures { Gives (λ _. reading_of self.new) result (applied (reading_of self.old) (effect_at setting expected (mark_terminal_of mark))) }
     {
         match expected {
             Expected::Operator(last) => self.take_operator(setting, last, mark),
-            _ => self.apply(effect_of(setting, expected, mark_terminal(mark))),
+            Expected::Exponent {
+                is_on_enclosed,
+                is_parenthesized,
+                sign: None,
+            } if matches!(mark, Mark::Minus) => self.wait(Expected::Exponent {
+                is_on_enclosed,
+                is_parenthesized,
+                sign: Some(Sign::Minus),
+            }),
+            _ => self.take_mark_slowly(setting, mark),
         }
     }
 
+    /// The same of any mark.
+    #[inline(never)]
+    fn take_mark_slowly(&mut self, setting: Setting, mark: Mark) -> Result<(), ReadError>
+        ensures { Gives (λ _. reading_of self.new) result (applied (reading_of self.old) (effect_at setting self.old.expected (mark_terminal_of mark))) }
+    {
+        self.apply(effect_of(setting, self.expected, mark_terminal(mark)))
+    }
+
     /// The same behind a factor of which this stands last.
+    #[inline(always)]
     fn take_operator(&mut self, setting: Setting, last: Last, mark: Mark) -> Result<(), ReadError>
         ensures { Gives (λ _. reading_of self.new) result (applied (reading_of self.old) (operator_effect_of setting last (mark_terminal_of mark))) }
     {
         match mark {
             Mark::Times => self.wait(Expected::Factor(Link::Times)),
+            Mark::Over => self.wait(Expected::Factor(Link::Over)),
             Mark::Plus => self.wait(Expected::Factor(Link::Plus)),
             Mark::Minus => self.wait(Expected::Factor(Link::Minus)),
             Mark::Power => self.raise(last),
             Mark::Open => self.open_behind(last),
             Mark::Close => self.close(),
             Mark::Comma => self.part(),
-            _ => self.apply(operator_effect(setting, last, mark_terminal(mark))),
+            _ => self.take_operator_slowly(setting, last, mark),
         }
     }
 
+    /// The same of any mark.
+    #[inline(never)]
+    fn take_operator_slowly(
+        &mut self,
+        setting: Setting,
+        last: Last,
+        mark: Mark,
+    ) -> Result<(), ReadError>
+        ensures { Gives (λ _. reading_of self.new) result (applied (reading_of self.old) (operator_effect_of setting last (mark_terminal_of mark))) }
+    {
+        self.apply(operator_effect(setting, last, mark_terminal(mark)))
+    }
+
     /// Goes on to a power behind a factor of which this stands last.
+    #[inline(always)]
     fn raise(&mut self, last: Last) -> Result<(), ReadError>
         ensures { Gives (λ _. reading_of self.new) result (applied (reading_of self.old) (raise_effect_of last)) }
     {
@@ -381,6 +515,7 @@ impl Reader {
     }
 
     /// A power is expected next, which stands on what has parentheses or not.
+    #[inline(always)]
     fn wait_for_power(&mut self, is_on_enclosed: bool) -> Result<(), ReadError>
         ensures { Gives (λ _. reading_of self.new) result (applied (reading_of self.old) (Waits (Exponent is_on_enclosed false None))) }
     {
@@ -392,16 +527,26 @@ impl Reader {
     }
 
     /// Opens a parenthesis behind a factor of which this stands last.
+    #[inline(always)]
     fn open_behind(&mut self, last: Last) -> Result<(), ReadError>
         ensures { Gives (λ _. reading_of self.new) result (applied (reading_of self.old) (call_effect_of last)) }
     {
         match last {
             Last::Name => self.call(false),
-            _ => self.apply(call_effect(last)),
+            _ => self.open_slowly(last),
         }
     }
 
+    /// The same behind anything.
+    #[inline(never)]
+    fn open_slowly(&mut self, last: Last) -> Result<(), ReadError>
+        ensures { Gives (λ _. reading_of self.new) result (applied (reading_of self.old) (call_effect_of last)) }
+    {
+        self.apply(call_effect(last))
+    }
+
     /// Only this is expected next.
+    #[inline(always)]
     fn wait(&mut self, expected: Expected) -> Result<(), ReadError>
         ensures { Gives (λ _. reading_of self.new) result (applied (reading_of self.old) (Waits expected)) }
     {
@@ -410,6 +555,7 @@ impl Reader {
     }
 
     /// Goes one token further, that of this shape that is written so.
+    #[inline(always)]
     pub fn take_shape(
         &mut self,
         setting: Setting,
@@ -421,30 +567,33 @@ impl Reader {
     {
         match shape {
             Shape::Mark(mark) => self.take_mark(setting, self.expected, mark),
-            Shape::Number(value) => {
-                self.take_number(setting, self.expected, Number { value, spot })
-            }
-            Shape::Name => {
-                let name = Name::new(self.alloc, text)?;
-                self.take_name(setting, self.expected, Spelled { name, spot })
-            }
-            Shape::BuiltIn(_) => self.take_other(setting, spot, shape, text),
-            Shape::Stray => self.take_other(setting, spot, shape, text),
+            Shape::Number(value) => self.take_number(setting, self.expected, value, spot),
+            Shape::Name => self.take_name(setting, self.expected, text, spot),
+            Shape::BuiltIn(built_in) => self.take_built_in(setting, spot, built_in),
+            Shape::Stray => self.take_stray(setting),
         }
     }
 
-    /// The same of any token.
-    fn take_other(
+    /// The same of a name of the language.
+    #[inline(never)]
+    fn take_built_in(
         &mut self,
         setting: Setting,
         spot: Spot,
-        shape: Shape,
-        text: &str,
+        built_in: BuiltIn,
     ) -> Result<(), ReadError>
-        ensures { Gives (λ _. reading_of self.new) result (step setting (reading_of self.old) (kind_terminal (kind_of shape text.now) spot)) }
+        ensures { Gives (λ _. reading_of self.new) result (step setting (reading_of self.old) (built_in_terminal built_in spot)) }
     {
-        let kind = kind(self.alloc, shape, text)?;
+        let kind = TokenKind::BuiltIn(built_in);
         self.take(setting, Terminal::from(Token { kind, spot }))
+    }
+
+    /// The same of what is no token of the language.
+    #[inline(never)]
+    fn take_stray(&mut self, setting: Setting) -> Result<(), ReadError>
+        ensures { Gives (λ _. reading_of self.new) result (step setting (reading_of self.old) by_terminal.Other) }
+    {
+        self.take(setting, Terminal::Other)
     }
 
     /// All of it, where it is complete.

@@ -1,5 +1,6 @@
 //! A right side that is read token by token as it comes, so that its tokens needn't be kept.
-ghost use Rattle.std.specs.Prelude.{List, [], ◌∷◌, ◌++◌, IfErr, IfOk, OnOk};
+ghost use Rattle.std.specs.Prelude.{◌≡◌, true, List, [], ◌∷◌, ◌++◌, IfErr, IfOk, OnOk};
+ghost use Rattle.form_grammar.specs.declared.error.ReadError.TheVariants.{BadSyntax};
 ghost use Rattle.form_grammar.specs.declared.terminal.Terminal.{Terminal};
 ghost use Rattle.form_grammar.specs.Grammar.{IsExpr};
 ghost use Rattle.form_grammar.specs.Parts.{HasRead};
@@ -33,6 +34,21 @@ impl RightSide {
         }
     }
 
+    /// Nothing that may follow makes a right side of it, unless memory ran out.
+    #[inline(never)]
+    fn fail(&mut self, error: ReadError) -> Result<(), AllocError>
+        ensures syntax { OnOk result (error ≡ BadSyntax) }
+        ensures failed { OnOk result (self.new.has_failed ≡ true) }
+    {
+        match error {
+            ReadError::BadSyntax => {
+                self.has_failed = true;
+                Ok(())
+            }
+            ReadError::Memory => Err(AllocError),
+        }
+    }
+
     /// Goes one terminal further.
     pub fn take(&mut self, terminal: Terminal) -> Result<(), AllocError>
         ensures { OnOk result ((read : List Terminal) → HasRead read self.old → HasRead (read ++ terminal ∷ []) self.new) }
@@ -42,15 +58,12 @@ impl RightSide {
         }
         match self.reader.take(Setting::Plain, terminal) {
             Ok(()) => Ok(()),
-            Err(ReadError::BadSyntax) => {
-                self.has_failed = true;
-                Ok(())
-            }
-            Err(ReadError::Memory) => Err(AllocError),
+            Err(error) => self.fail(error),
         }
     }
 
     /// Goes one token further, that of this shape that is written so and stands here.
+    #[inline(always)]
     pub fn take_shape(&mut self, spot: Spot, shape: Shape, text: &str) -> Result<(), AllocError>
         ensures { OnOk result ((read : List Terminal) → HasRead read self.old → HasRead (read ++ kind_terminal (kind_of shape text.now) spot ∷ []) self.new) }
     {
@@ -59,11 +72,7 @@ impl RightSide {
         }
         match self.reader.take_shape(Setting::Plain, spot, shape, text) {
             Ok(()) => Ok(()),
-            Err(ReadError::BadSyntax) => {
-                self.has_failed = true;
-                Ok(())
-            }
-            Err(ReadError::Memory) => Err(AllocError),
+            Err(error) => self.fail(error),
         }
     }
 

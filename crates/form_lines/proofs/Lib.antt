@@ -1,3 +1,4 @@
 mod Splitting
 pub mod Plain
 mod Going
+pub mod Searching

@@ -24,8 +24,8 @@ pub utf8 : (text : List ℕ) → IsPlain text → IsUtf8 text
 utf8 text plain = IsUtf8-from_ascii text (ascii text plain)
 
 -- text that is plain is UTF-8, so it is told as text
-pub told : {E : Type 0} (Q : E → Type 0) (text : List ℕ) (read : Result (Bor (List ℕ)) E) (o : Option (Bor (List ℕ))) → IsPlain text → o ≡ result_ok read
-    → MatchResult read (λ s. (s.now ≡ text) × IsUtf8 text) (λ e. (IsUtf8 text → ⊥) × Q e)
+pub told : {E : Type 0} (text : List ℕ) (read : Result (Bor (List ℕ)) E) (o : Option (Bor (List ℕ))) → IsPlain text → o ≡ result_ok read
+    → MatchResult read (λ s. (s.now ≡ text) × IsUtf8 text) (λ e. IsUtf8 text → ⊥)
     → MatchOption o (IsTrue (has_other_bytes text)) (λ told. (told.now ≡ text) × IsPlain text)
-told Q text (Ok s) o plain e h = rw e (h.0, plain)
-told Q text (Err f) o plain e h = absurd (h.0 (utf8 text plain))
+told text (Ok s) o plain e h = rw e (h.0, plain)
+told text (Err f) o plain e h = absurd (h (utf8 text plain))

@@ -50,7 +50,7 @@ fn without_return(text: &[u8]) -> &[u8]
 fn newline(bytes: &[u8]) -> Option<usize>
     ensures { result ≡ position (λ c. c == 10) bytes.now }
 {
-    bytes.iter().position(|byte| *byte == b'\n')
+    memchr::memchr(b'\n', bytes)
 }
 
 /// The first line and what follows it, none where there is no line.
@@ -79,7 +79,16 @@ fn begins_with_byte(text: &[u8], byte: u8) -> bool
 fn is_plain_byte(byte: u8) -> bool
     ensures { result ≡ is_plain_byte_of byte }
 {
-    matches!(byte, b'\t' | b' '..=b'~')
+    matches!(byte, b' '..=b'~') || is_tab(byte)
+}
+
+/// Apart, so that the test of a byte is one comparison.
+#[cold]
+#[inline(never)]
+fn is_tab(byte: u8) -> bool
+    ensures { result ≡ (byte == 9) }
+{
+    byte == b'\t'
 }
 
 fn is_plain(text: &[u8]) -> bool
@@ -93,7 +102,7 @@ fn plain_text(text: &[u8]) -> Option<&str>
     ensures { MatchOption result (IsTrue (has_other_bytes text.now)) (λ plain. (plain.now ≡ text.now) × IsPlain text.now) }
 {
     if is_plain(text) {
-        str::from_utf8(text).ok()
+        simdutf8::basic::from_utf8(text).ok()
     } else {
         None
     }

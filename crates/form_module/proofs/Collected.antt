@@ -1,8 +1,8 @@
 -- Collecting a list as it comes.
-use Rattle.std.proofs.Common.{◌≡◌, ℕ, true, false, List, [], ◌∷◌, ◌++◌, Option, Some, None, Result, Ok, Err, refl, sym, subst, ap, ◌∙◌, append_assoc, arith}
+use Rattle.std.proofs.Common.{◌≡◌, ◌+◌, ℕ, true, false, List, [], ◌∷◌, ◌++◌, length, Option, Some, None, Result, Ok, Err, refl, sym, subst, ap, ◌∙◌, append_assoc, arith}
 use Rattle.std.specs.Vec.Iter.{into_iter_items, into_iter_len}
 use Rattle.std.specs.declared.vec.IntoIter.{IntoIter}
-use Rattle.std.proofs.lemmas.List.{append-nil, nil_from_length}
+use Rattle.std.proofs.lemmas.List.{append-nil, length-append, nil_from_length}
 use Rattle.form_base.specs.declared.cause.Cause.{Cause}
 use Rattle.form_term.specs.declared.monomial.Monomial.{Monomial}
 use Rattle.form_collect.specs.Collecting.{collected}
@@ -232,7 +232,7 @@ module _ (go : Monomial → Listing) (start old new : Listing) (b : Batch) (coll
   batch_more e added = subst (λ (l : Listing). IsGathered start (through go l) more) (rw e at is.ends) (batch_added added)
 
   pub batch_done : b.end ≡ ends.Done → IsAdded (through go (all_of b.items.items)) collector more (Ok tt) → IsGathered start nothing more
-  batch_done e added = subst (λ (l : Listing). IsGathered start l more) (ap (through go) (rw e at is.ends) ∙ through_nothing go) (batch_added added)
+  batch_done e added = subst (λ (l : Listing). IsGathered start l more) (ap (through go) (rw e at is.ends).0 ∙ through_nothing go) (batch_added added)
 
   pub batch_failed : (error : ExpandError) → b.end ≡ ends.Failed error → IsAdded (through go (all_of b.items.items)) collector more (Ok tt)
       → IsRefused (of_expand error) (collected_list start)
@@ -242,6 +242,10 @@ module _ (go : Monomial → Listing) (start old new : Listing) (b : Batch) (coll
 pub read_more : (start old new : Listing) (items now : List Monomial) (m : Monomial) → start ≡ behind items old → old ≡ before m new → now ≡ items ++ m ∷ [] → start ≡ behind now new
 read_more start old new items now m so_far gives put =
     so_far ∙ ap (behind items) gives ∙ ap (λ ms. record { terms = ms; end = new.end }) (sym (append_assoc items (m ∷ []) new.terms) ∙ ap (λ ns. ns ++ new.terms) (sym put))
+
+-- and how many they are
+pub one_longer : (items now : List Monomial) (m : Monomial) (n : ℕ) → length items ≡ n → now ≡ items ++ m ∷ [] → length now ≡ n + 1
+one_longer items now m n many put = ap length put ∙ length-append items (m ∷ []) ∙ ap (λ k. k + 1) many
 
 -- ---- what is made of one input
 

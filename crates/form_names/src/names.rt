@@ -138,6 +138,7 @@ impl Names {
     }
 
     /// The first position at which the name stands.
+    #[inline]
     pub fn lookup(&self, name: &str) -> Option<Id>
         ensures found { result ≡ lookup self.now name.now }
         ensures within { IfSome result (λ id. id < length self.now) }
@@ -161,6 +162,7 @@ impl Names {
     }
 
     /// That of any name.
+    #[inline(never)]
     fn stored(&self, name: &str) -> Option<Id>
         ensures found { result ≡ lookup self.now name.now }
         ensures within { IfSome result (λ id. id < length self.now) }

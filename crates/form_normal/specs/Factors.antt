@@ -34,7 +34,8 @@ pub record AreJoined (o : Others) : Type 0 where
   pub shallow : depth_of_others o < largest_depth
   pub small : size_of_others o < 2 ^ 32
 
--- a function may be a further factor of a term as it stands
+-- A function may be a further factor of a term as it stands: the limits of size and depth are kept, and no delta of the
+-- term has two fixed indices, which would be 1 or 0 in a product.
 pub record HasRoom (t : Term) (c : Call) : Type 0 where
   pub small : size t + size_of_call c ≤ largest_size
   pub shallow : deepest 0 c.pieces < largest_depth

@@ -1,10 +1,10 @@
 //! Products with a single factor, made in place where they can be.
-ghost use Rattle.std.specs.Prelude.{◌≡◌, ◌≤◌, ◌<◌, ◌++◌, nat_abs, length, [], ◌∷◌, false, Ok, Err, Some, IfOk, IfSome, OnOk, OnSome};
+ghost use Rattle.std.specs.Prelude.{◌≡◌, ◌≤◌, ◌<◌, ◌↔◌, ◌++◌, nat_abs, length, [], ◌∷◌, false, Ok, Err, Some, IfOk, IfSome, IsTrue, OnOk};
 ghost use Rattle.std.specs.Bool.{OnTrue};
 ghost use Rattle.std.specs.List.{list_any, prefix_len};
 ghost use Rattle.form_base.specs.declared.cause.Cause.{Cause};
 ghost use Rattle.form_term.specs.Factor.{function_factor};
-ghost use Rattle.form_term.specs.Term.{IsTerm, RisesBy, call_order, nothing, of_others, one, size, largest_exponent, largest_size};
+ghost use Rattle.form_term.specs.Term.{IsTerm, RisesBy, call_order, nothing, of_others, one, largest_exponent};
 ghost use Rattle.form_term.specs.Terms.{term};
 ghost use Rattle.form_normal.specs.Factors.{HasRoom, IsPlain, is_upto};
 ghost use Rattle.form_normal.specs.Lists.{in_order};
@@ -81,44 +81,41 @@ pub fn multiply_by_power(
     multiply(alloc, front, &factor)
 }
 
-/// A term with its coefficient times a commuting function; none where the product isn't made so: it is past the limits of
-/// terms, or there are deltas of two fixed indices.
-pub fn times_function(
-    alloc: Global,
-    front: Monomial,
-    call: Call,
-) -> Result<Option<Monomial>, AllocError>
-    ensures product { IfOk result (λ made. IfSome made (λ m. product_of front (function_alone call) ≡ Ok (Some m))) }
-    ensures alone { IfOk result (λ made. OnSome made (StandsAlone (function_alone call))) }
+/// Whether a term has room for a function as a further factor.
+pub fn has_room(front: &Monomial, call: &Call) -> bool
+    ensures { IsTrue result ↔ HasRoom front.now.term call.now }
+{
+    front.laws();
+    call.depth() < LARGEST_DEPTH
+        && call.size() <= LARGEST_SIZE - front.term.size()
+        && !has_fixed(front.term.deltas())
+}
+
+/// A term with its coefficient times a commuting function for which it has room.
+pub fn times_function(alloc: Global, front: Monomial, call: Call) -> Result<Monomial, AllocError>
+    requires { HasRoom front.term call }
+    ensures product { IfOk result (λ m. product_of front (function_alone call) ≡ Ok (Some m)) }
+    ensures alone { OnOk result (StandsAlone (function_alone call)) }
 {
     front.laws();
     let _ = call.pieces();
-    if !has_room(&front.term, &call) {
-        return Ok(None);
-    }
     let place = place_of(front.term.functions(), &call);
     let Monomial { coefficient, term } = front;
     let term = term.with_function(alloc, place, call)?;
-    Ok(Some(Monomial { coefficient, term }))
+    Ok(Monomial { coefficient, term })
 }
 
 /// The same with a non-commuting function.
-pub fn times_word(
-    alloc: Global,
-    front: Monomial,
-    call: Call,
-) -> Result<Option<Monomial>, AllocError>
-    ensures product { IfOk result (λ made. IfSome made (λ m. product_of front (word_alone call) ≡ Ok (Some m))) }
-    ensures alone { IfOk result (λ made. OnSome made (StandsAlone (word_alone call))) }
+pub fn times_word(alloc: Global, front: Monomial, call: Call) -> Result<Monomial, AllocError>
+    requires { HasRoom front.term call }
+    ensures product { IfOk result (λ m. product_of front (word_alone call) ≡ Ok (Some m)) }
+    ensures alone { OnOk result (StandsAlone (word_alone call)) }
 {
     front.laws();
     let _ = call.pieces();
-    if !has_room(&front.term, &call) {
-        return Ok(None);
-    }
     let Monomial { coefficient, term } = front;
     let term = term.with_word(alloc, call)?;
-    Ok(Some(Monomial { coefficient, term }))
+    Ok(Monomial { coefficient, term })
 }
 
 /// The product of two terms with their coefficients as `product` gives it, of which the first is the caller's own: where
@@ -136,9 +133,8 @@ pub fn product_onto(
     if is_number(&factor.term) {
         return number_onto(alloc, front, factor.coefficient);
     }
-    front.laws();
     if let Some(call) = lone_function(&factor.term) {
-        if has_room(&front.term, call) {
+        if has_room(&front, call) {
             return function_onto(alloc, front, factor.coefficient, call);
         }
     }
@@ -255,23 +251,6 @@ fn has_no_more(term: &Term) -> bool
     ensures { OnTrue result (term.now ≡ of_others (record nothing { functions = term.now.others.functions })) }
 {
     term.powers().is_empty() && is_plain(term)
-}
-
-/// Whether a function may be a further factor of a term as it stands.
-fn has_room(front: &Term, call: &Call) -> bool
-    requires { size front.now ≤ largest_size }
-    ensures { OnTrue result (HasRoom front.now call.now) }
-{
-    if call.depth() >= LARGEST_DEPTH {
-        return false;
-    }
-    if call.size() > LARGEST_SIZE - front.size() {
-        return false;
-    }
-    if has_fixed(front.deltas()) {
-        return false;
-    }
-    true
 }
 
 /// How many of these functions are no higher than another. It looks from behind: most functions are declared later than

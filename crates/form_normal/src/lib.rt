@@ -7,6 +7,7 @@ mod merging;
 mod products;
 
 pub use factors::{
-    multiply, multiply_by_number, multiply_by_power, product_onto, times_function, times_word,
+    has_room, multiply, multiply_by_number, multiply_by_power, product_onto, times_function,
+    times_word,
 };
 pub use products::{ProductError, product};

@@ -6,6 +6,7 @@ mod Changes
 mod Continuing
 mod Cutting
 mod Existing
+pub mod Holding
 mod Leading
 mod Linking
 mod Names

@@ -16,7 +16,7 @@ fn is_blank(byte: u8) -> bool
 pub fn has_byte(text: &[u8], byte: u8) -> bool
     ensures { result ≡ list_any (λ c. c == byte) text.now }
 {
-    text.iter().any(|other| *other == byte)
+    memchr::memchr(byte, text).is_some()
 }
 
 /// What follows the blanks at the front.

@@ -70,11 +70,6 @@ statement_refused old t (BadSyntax spot) e h = λ lexed rest to.
     let here : items to.begun (token t ∷ rest) ≡ statement to.begun ∷ items [] rest = rw e refl in
     subst (λ (all : List Item). IsRefusedAt [] all spot) (all_behind lexed rest (token t)) (to.refused (token t ∷ rest) spot (subst (λ (all : List Item). IsRefusedAt old.statements.items all spot) (sym here) (inl (h to.begun to.has_begun))))
 
-pub semicolon_refused : {T : Type 0} (r : Result T ProgramError) (old : Reader) (t : Token) → is_semicolon t ≡ true
-    → IfErr r (λ error. (begun : List Token) → HasBegun old begun → IsRefusedItem old.statements.items (statement begun) error) → IfErr r (λ error. Refuses old (token t ∷ []) error)
-semicolon_refused (Ok x) old t e h = tt
-semicolon_refused (Err error) old t e h = statement_refused old t error e h
-
 module _ (old new : Reader) (t : Token) (e : is_semicolon t ≡ false) (h : (begun : List Token) → HasBegun old begun → HasBegun new (begun ++ t ∷ []))
     (statements : new.statements.items ≡ old.statements.items) (modules : new.modules.items ≡ old.modules.items) where
   -- a further token of a statement
@@ -168,10 +163,6 @@ module _ {T : Type 0} (r : Result T ProgramError) (old new : Reader) (line : Pla
     by_result (Ok x) h = tt
     by_result (Err Memory) h = tt
     by_result (Err (BadSyntax spot)) h = (period line ∷ [], is_period, h)
-
-pub on_ok : {T E P Q : Type 0} (r : Result T E) → (P → Q) → OnOk r P → OnOk r Q
-on_ok (Ok x) f h = f h
-on_ok (Err x) f h = h
 
 joined : {A : Type 0} (a b c d : List A) (x : A) → ((a ++ b) ++ x ∷ []) ++ (c ++ d) ≡ (a ++ (b ++ x ∷ c)) ++ d
 joined a b c d x = simp append_assoc

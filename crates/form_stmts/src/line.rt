@@ -27,7 +27,7 @@ impl<'a> Line<'a> {
         requires { IsAscii text.now }
         ensures { result ≡ record { spot = spot; text = text.now } }
     {
-        let text = str::from_utf8(text).unwrap();
+        let text = simdutf8::basic::from_utf8(text).unwrap();
         Line { spot, text }
     }
 

@@ -75,6 +75,7 @@ impl Reader {
     }
 
     /// Ends the statement that is begun.
+    #[inline(never)]
     fn end_statement(&mut self, alloc: Global) -> Result<(), ProgramError>
         ensures ended { OnOk result (EndsStatement self.old self.new) }
         ensures refused { IfErr result (λ error. (begun : List Token) → HasBegun self.old begun → IsRefusedItem self.old.statements.items (statement begun) error) }
@@ -97,24 +98,21 @@ impl Reader {
         }
     }
 
-    /// Goes one token further, that of this shape that is written so and stands here.
-    fn take_token(
+    /// Goes one token further, that of this shape that is written so and stands here, where no right side is begun and no
+    /// statement ends.
+    #[inline(never)]
+    fn take_front(
         &mut self,
         alloc: Global,
         spot: Spot,
         shape: Shape,
         text: &str,
     ) -> Result<(), ProgramError>
+        requires token { is_semicolon_kind (kind_of shape text.now) ≡ false }
+        requires none { self.old.right_side ≡ None }
         ensures read { OnOk result (ReadsOn self.old (lexed_token (token_of spot shape text.now) ∷ []) self.new) }
         ensures refused { IfErr result (λ error. Refuses self.old (lexed_token (token_of spot shape text.now) ∷ []) error) }
     {
-        if is_semicolon(shape) {
-            return self.end_statement(alloc);
-        }
-        if let Some(right_side) = &mut self.right_side {
-            right_side.take_shape(spot, shape, text)?;
-            return Ok(());
-        }
         let kind = kind(alloc, shape, text)?;
         self.keep(alloc, Token { kind, spot })
     }
@@ -134,6 +132,7 @@ impl Reader {
     }
 
     /// Ends the module that is begun, where the line is an instruction for that and no statement is begun.
+    #[inline(never)]
     fn take_instruction(&mut self, alloc: Global, line: &Line<'_>) -> Result<(), ProgramError>
         ensures read { OnOk result (ReadsOn self.old (period line.now ∷ []) self.new) }
         ensures refused { IfErr result (λ error. Refuses self.old (period line.now ∷ []) error) }
@@ -149,6 +148,7 @@ impl Reader {
         Ok(())
     }
 
+    #[inline(never)]
     fn take_line(&mut self, alloc: Global, line: &Line<'_>) -> Result<(), ProgramError>
         ensures read { OnOk result ((here : List Lexed) × IsLexed line.now here × ReadsOn self.old here self.new) }
         ensures refused { IfErr result (λ error. RefusesLine self.old line.now error) }
@@ -160,8 +160,18 @@ impl Reader {
         let spot = line.spot();
         let mut rest = line.text();
         while let Some((shape, text, others)) = next_token(rest) {
-            self.take_token(alloc, spot, shape, text)?;
             rest = others;
+            if is_semicolon(shape) {
+                self.end_statement(alloc)?;
+                continue;
+            }
+            if let Some(right_side) = &mut self.right_side {
+                right_side.take_shape(spot, shape, text)?;
+                continue;
+            }
+            // a copy, so that a shape that isn't handed on needn't stand in memory
+            let rare = shape;
+            self.take_front(alloc, spot, rare, text)?;
         }
         Ok(())
     }

@@ -2,8 +2,8 @@
 
 use form_base::{Cause, Id};
 use form_expand::{
-    ExpandError, Expansion, Part, Row, Standing, Stored, Terms, argument_pieces, expand_tree,
-    whole_list,
+    ExpandError, Expansion, Part, Row, Standing, Stored, Terms, Timed, argument_pieces,
+    expand_tree, times_lone_function, whole_list,
 };
 use form_frac::Frac;
 use form_match::{Bindings, Wildcard};
@@ -424,18 +424,8 @@ fn lists_of_several_kinds_are_paired(rt: HostRuntime) -> Result<(), Fail> {
     Ok(())
 }
 
-/// h(n+1), h being the name 3 and n the wildcard 5, which stands for 3: its size.
-fn size_with_number(alloc: Global) -> Result<usize, AllocError> {
-    let three = [
-        Piece::Argument,
-        Piece::Number {
-            link: Link::Plus,
-            value: Natural::new(3),
-            power: 1,
-        },
-        Piece::EndOfArgument,
-    ];
-    let names = bound(alloc, &three)?;
+/// h(n+1) to a power, h being the name 3 and n the wildcard 5.
+fn of_next(alloc: Global, power: u32) -> Result<Vec<Piece>, AllocError> {
     let pieces = [
         Piece::Function {
             link: Link::Plus,
@@ -450,8 +440,29 @@ fn size_with_number(alloc: Global) -> Result<usize, AllocError> {
             power: 1,
         },
         Piece::EndOfArgument,
-        Piece::EndOfFunction { power: 1 },
+        Piece::EndOfFunction { power },
     ];
+    Vec::from_slice(alloc, &pieces)
+}
+
+/// The wildcard 5 as standing for 3.
+fn three(alloc: Global) -> Result<Standing, AllocError> {
+    let three = [
+        Piece::Argument,
+        Piece::Number {
+            link: Link::Plus,
+            value: Natural::new(3),
+            power: 1,
+        },
+        Piece::EndOfArgument,
+    ];
+    bound(alloc, &three)
+}
+
+/// The size of h(4).
+fn size_with_number(alloc: Global) -> Result<usize, AllocError> {
+    let names = three(alloc)?;
+    let pieces = of_next(alloc, 1)?;
     let whole = whole_list(alloc, &pieces, 9, &names)?;
     match whole.at(0) {
         Some(item) => Ok(item.term.size()),
@@ -463,5 +474,31 @@ fn size_with_number(alloc: Global) -> Result<usize, AllocError> {
 fn a_bound_number_is_added(rt: HostRuntime) -> Result<(), Fail> {
     let alloc = rt.alloc();
     assert_eq!(rt; size_with_number(alloc)?, 3);
+    Ok(())
+}
+
+/// The size of a symbol times these pieces, where they are multiplied at once.
+fn size_at_once(alloc: Global, pieces: &[Piece], limit: u64) -> Result<usize, AllocError> {
+    let names = three(alloc)?;
+    let left = Monomial {
+        coefficient: Frac::one(),
+        term: Term::symbol(alloc, Id::new(0), 1)?,
+    };
+    match times_lone_function(alloc, left, pieces, limit, &names)? {
+        Timed::Made(made) => Ok(made.term.size()),
+        Timed::Same(_) => Ok(0),
+    }
+}
+
+#[test]
+fn a_lone_function_is_multiplied_at_once(rt: HostRuntime) -> Result<(), Fail> {
+    let alloc = rt.alloc();
+    let mut pieces = of_next(alloc, 1)?;
+    assert_eq!(rt; size_at_once(alloc, &pieces, 9)?, 4);
+    assert_eq!(rt; size_at_once(alloc, &pieces, 1)?, 0);
+    pieces.push(symbol(Link::Plus, 1, 1))?;
+    assert_eq!(rt; size_at_once(alloc, &pieces, 9)?, 0);
+    let square = of_next(alloc, 2)?;
+    assert_eq!(rt; size_at_once(alloc, &square, 9)?, 0);
     Ok(())
 }

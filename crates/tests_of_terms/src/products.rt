@@ -1,11 +1,12 @@
-ghost use Rattle.std.specs.Prelude.{◌≤◌, ℕ, ℤ, All, nat_abs};
+ghost use Rattle.std.specs.Prelude.{◌≡◌, ◌≤◌, ℕ, ℤ, All, false, nat_abs};
+ghost use Rattle.form_frac.specs.Fraction.{is_zero};
 ghost use Rattle.form_term.specs.Term.{largest_exponent};
 
 use form_base::{Cause, Id};
 use form_frac::Frac;
 use form_normal::{
-    ProductError, multiply_by_number, multiply_by_power, product, product_onto, times_function,
-    times_word,
+    ProductError, has_room, multiply_by_number, multiply_by_power, product, product_onto,
+    times_function, times_word,
 };
 use form_term::{Arguments, Call, Component, Delta, Index, Monomial, Power, Term, compare};
 use std::alloc::{AllocError, Global};
@@ -47,7 +48,9 @@ fn exponents_add_up_and_vanish(rt: HostRuntime) -> Result<(), Fail> {
 }
 
 /// 1 times a term.
-fn once(term: Term) -> Monomial {
+fn once(term: Term) -> Monomial
+    ensures { is_zero result.coefficient ≡ false }
+{
     Monomial {
         coefficient: Frac::whole(1),
         term,
@@ -110,12 +113,17 @@ fn powers_go_last_or_join_others(rt: HostRuntime) -> Result<(), Fail> {
 }
 
 /// A function, named by its number, of so many indices.
-fn function(alloc: Global, id: u32, many: u32, commutes: bool) -> Result<Monomial, AllocError> {
+fn of_indices(alloc: Global, id: u32, many: u32) -> Result<Call, AllocError> {
     let mut arguments = Arguments::new(alloc);
     for _ in 0..many {
         arguments = arguments.with_index(Index::Fixed(1))?;
     }
-    let call = arguments.into_call(Id::new(id))?;
+    arguments.into_call(Id::new(id))
+}
+
+/// The same as a factor.
+fn function(alloc: Global, id: u32, many: u32, commutes: bool) -> Result<Monomial, AllocError> {
+    let call = of_indices(alloc, id, many)?;
     if call.size() > 4096 || call.depth() > 63 {
         return Err(AllocError);
     }
@@ -132,21 +140,22 @@ fn are_equal(left: Monomial, right: Monomial) -> bool {
     compare(&left.term, &right.term) == Ordering::Equal
 }
 
-/// A function of an index.
-fn call(alloc: Global, id: u32) -> Result<Call, AllocError> {
-    Arguments::new(alloc)
-        .with_index(Index::Fixed(1))?
-        .into_call(Id::new(id))
-}
-
-/// A term times a commuting function, where the product is made in place.
+/// A term times a commuting function for which it has room.
 fn with_function(alloc: Global, front: Monomial, id: u32) -> Result<Monomial, Fail> {
-    Ok(times_function(alloc, front, call(alloc, id)?)?.ok_or("no room")?)
+    let call = of_indices(alloc, id, 1)?;
+    if !has_room(&front, &call) {
+        return Err(Fail::from("no room"));
+    }
+    Ok(times_function(alloc, front, call)?)
 }
 
-/// A term times a non-commuting function, where the product is made in place.
+/// A term times a non-commuting function for which it has room.
 fn with_word(alloc: Global, front: Monomial, id: u32) -> Result<Monomial, Fail> {
-    Ok(times_word(alloc, front, call(alloc, id)?)?.ok_or("no room")?)
+    let call = of_indices(alloc, id, 1)?;
+    if !has_room(&front, &call) {
+        return Err(Fail::from("no room"));
+    }
+    Ok(times_word(alloc, front, call)?)
 }
 
 #[test]
@@ -275,6 +284,52 @@ fn answered(alloc: Global, left: Monomial, right: Monomial) -> u32 {
 /// A function of many indices.
 fn large(alloc: Global) -> Result<Monomial, AllocError> {
     function(alloc, 7, 3000, true)
+}
+
+#[test]
+fn a_term_has_room_up_to_the_largest_size(rt: HostRuntime) -> Result<(), Fail> {
+    let alloc = rt.alloc();
+    assert!(rt; has_room(&large(alloc)?, &of_indices(alloc, 8, 1094)?));
+    assert!(rt; !has_room(&large(alloc)?, &of_indices(alloc, 8, 1095)?));
+    Ok(())
+}
+
+/// A function of another one.
+fn around(alloc: Global, call: Call) -> Result<Call, AllocError> {
+    if call.size() > 4096 || call.depth() > 63 {
+        return Err(AllocError);
+    }
+    let inner = once(Term::function(alloc, call)?);
+    Arguments::new(alloc)
+        .with_expression(&[inner])?
+        .into_call(Id::new(7))
+}
+
+/// A function inside so many others.
+fn nested(alloc: Global, many: u32) -> Result<Call, AllocError> {
+    let mut call = of_indices(alloc, 7, 0)?;
+    for _ in 0..many {
+        call = around(alloc, call)?;
+    }
+    Ok(call)
+}
+
+#[test]
+fn a_term_has_room_up_to_the_largest_depth(rt: HostRuntime) -> Result<(), Fail> {
+    let alloc = rt.alloc();
+    let front = power(alloc, 1, 1)?;
+    assert!(rt; has_room(&front, &nested(alloc, 63)?));
+    assert!(rt; !has_room(&front, &nested(alloc, 64)?));
+    Ok(())
+}
+
+#[test]
+fn a_delta_of_fixed_indices_has_no_room(rt: HostRuntime) -> Result<(), Fail> {
+    let alloc = rt.alloc();
+    let call = of_indices(alloc, 7, 1)?;
+    assert!(rt; !has_room(&delta(alloc, 2, 2)?, &call));
+    assert!(rt; !has_room(&delta(alloc, 1, 2)?, &call));
+    Ok(())
 }
 
 /// That function to the right of a high power, with this coefficient.

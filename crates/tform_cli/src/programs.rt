@@ -118,6 +118,25 @@ fn a_refused_module_stands_behind_what_was_printed(rt: HostRuntime) -> Result<()
 }
 
 #[test]
+fn a_number_may_have_any_power(rt: HostRuntime) -> Result<(), Fail> {
+    let text =
+        "Symbols x,y,n;\nCFunctions f,g,h;\nLocal F = h(1)*f(5000000000);\nLocal G = h(-1)*f(5000000000);\nLocal H = h(-1)*f(5000000001);\nLocal J = h(0)*f(5000000000);\nid h(x?)*f(n?)*g(y^n?)^0 = x^n;\nPrint;\n.end\n";
+    let printed =
+        "\n   F =\n      1;\n\n\n   G =\n      1;\n\n\n   H =\n      -1;\n\n\n   J = 0;\n\n";
+    assert!(rt; gives(&rt, rt.alloc(), text, printed, 0)?);
+    Ok(())
+}
+
+#[test]
+fn a_power_out_of_range_is_refused_however_large(rt: HostRuntime) -> Result<(), Fail> {
+    let text =
+        "Symbols x,y,n;\nCFunctions f,g,h;\nLocal F = h(2)*f(5000000000);\nid h(x?)*f(n?)*g(y^n?)^0 = x^n;\nPrint;\n.end\n";
+    let refused = "error: module 1 expression F: Overflow\n";
+    assert!(rt; gives(&rt, rt.alloc(), text, refused, 4)?);
+    Ok(())
+}
+
+#[test]
 fn a_missing_text_is_named(rt: HostRuntime) -> Result<(), Fail> {
     let alloc = rt.alloc();
     let answered = answer_to(&rt, alloc, &["tform", "q.frm"], SQUARE, Failing::Nothing)?;

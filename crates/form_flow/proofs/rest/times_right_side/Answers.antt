@@ -1,8 +1,9 @@
-use Rattle.std.proofs.Common.{[], ◌∷◌, IfOk, ap, subst, ◌∙◌}
+use Rattle.std.proofs.Common.{[], ◌∷◌, IfOk, ap, subst, sym, ◌∙◌}
+use Rattle.form_term.specs.declared.monomial.Monomial.{Monomial}
 use Rattle.form_expand.specs.Expanding.{list_of_sum}
 use Rattle.form_expand.specs.Left.{row}
-use Rattle.form_expand.specs.Listing.{Listing, limited, single}
-use Rattle.form_expand.specs.Meanings.{no_meanings}
+use Rattle.form_expand.specs.Listing.{Listing, single}
+use Rattle.form_expand.specs.Meanings.{Meanings}
 use Rattle.form_expand.specs.Reading.{list_of_pieces}
 use Rattle.form_flow.specs.Applied.{IsPut}
 use Rattle.form_flow.proofs.rest.times_right_side.Goals as goal
@@ -10,27 +11,23 @@ use Rattle.form_flow.proofs.rest.times_right_side.Goals as goal
 pub returns-in_default : goal.returns-in_default
 returns-in_default c = λ s is.
     let max = c.args.limit in
-    subst (λ (l : Listing). IfOk c.pair.result (λ applied. IsPut (row max (single c.args.left ∷ l ∷ [])) applied))
-    (ap (λ names. list_of_pieces max names c.args.right.now) c.requires
-    ∙ ap (list_of_pieces max no_meanings) is
-    ∙ c.lists_of_trees.ensures.pieces max no_meanings s
-    ∙ ap (λ names. list_of_sum max names s) (rw c.in_default.is at c.bound.ensures))
-    c.pair.ensures
+    subst (λ (names : Meanings). IfOk c.times_tree.result (λ applied. IsPut (row max (single c.args.left ∷ list_of_sum max names s ∷ [])) applied))
+    (c.requires ∙ rw c.in_default.is at c.bound.ensures) (c.times_tree.ensures s is)
 
-pub returns-then-is_alone : goal.returns-then-is_alone
-returns-then-is_alone c = λ s is.
+pub returns-in-Made : goal.returns-in-Made
+returns-in-Made c = λ s is.
     let max = c.args.limit in
-    subst (λ (l : Listing). IfOk c.times_alone.result (λ applied. IsPut (row max (single c.args.left ∷ l ∷ [])) applied))
-    (ap (limited max) (c.in_ok-whole.ensures s is)
-    ∙ c.lists_of_trees.ensures.within max c.in-Some.names s
-    ∙ ap (λ names. list_of_sum max names s) (rw c.in-Some.is at c.bound.ensures))
-    c.times_alone.ensures
+    ap (λ (l : Listing). row max (single c.args.left ∷ l ∷ []))
+    (sym
+    (ap (list_of_pieces max c.in-Some.names) is
+    ∙ c.lists_of_trees.ensures.pieces max c.in-Some.names s
+    ∙ ap (λ names. list_of_sum max names s) (rw c.in-Some.is at c.bound.ensures)))
+    ∙ rw c.in-Made.is at c.in_ok-item.ensures
 
 pub returns : goal.returns
 returns c = λ s is.
     let max = c.args.limit in
-    subst (λ (l : Listing). IfOk c.pair-2.result (λ applied. IsPut (row max (single c.args.left ∷ l ∷ [])) applied))
-    (ap (limited max) (c.in_ok-whole.ensures s is)
-    ∙ c.lists_of_trees.ensures.within max c.in-Some.names s
-    ∙ ap (λ names. list_of_sum max names s) (rw c.in-Some.is at c.bound.ensures))
-    c.pair-2.ensures
+    subst (λ (names : Meanings). IfOk c.times_list.result (λ applied. IsPut (row max (single c.args.left ∷ list_of_sum max names s ∷ [])) applied))
+    (rw c.in-Some.is at c.bound.ensures)
+    (subst (λ (m : Monomial). IfOk c.times_list.result (λ applied. IsPut (row max (single m ∷ list_of_sum max c.in-Some.names s ∷ [])) applied))
+    (rw c.in-Same.is at c.in_ok-item.ensures) (c.times_list.ensures s is))

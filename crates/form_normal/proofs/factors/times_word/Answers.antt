@@ -3,15 +3,15 @@ use Rattle.form_normal.proofs.factors.times_word.Goals as goal
 
 pub with_word-requires : goal.with_word-requires
 with_word-requires c =
-    let room = rw c.if-not-has_room.false at c.has_room.ensures in
+    let room = c.requires in
     word_put_lawful c.args.front.term c.args.call c.laws.ensures.lawful c.pieces.ensures.lawful room
 
 pub returns-clause-product : goal.returns-clause-product
 returns-clause-product c =
-    let room = rw c.if-not-has_room.false at c.has_room.ensures in
+    let room = c.requires in
     rw c.in_ok-term.ensures (word_made c.args.front c.args.call c.laws.ensures.lowest c.laws.ensures.lawful c.pieces.ensures.lawful room)
 
 pub returns-clause-alone : goal.returns-clause-alone
 returns-clause-alone c =
-    let room = rw c.if-not-has_room.false at c.has_room.ensures in
+    let room = c.requires in
     word_stands c.args.call (word_term c.args.front.term c.args.call c.laws.ensures.lawful c.pieces.ensures.lawful room)

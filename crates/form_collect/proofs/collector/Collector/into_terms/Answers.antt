@@ -1,12 +1,8 @@
 -- The entries stand for the list, and their monomials in the order of terms are what is collected.
-use Rattle.std.proofs.Common.{[], sym, ◌∙◌, append-nil, rules}
-use Rattle.std.specs.Ordering.{is_lt}
-use Rattle.std.specs.List.Sorted.{IsPermutation, IsSortedBy}
-use Rattle.std.proofs.lemmas.List.Sorted.{ranks_by, answers_always}
-use Rattle.form_term.specs.TermLaws.{order_total}
-use Rattle.form_term.specs.declared.monomial.Monomial.{Monomial}
+use Rattle.std.proofs.Common.{[], sym, ◌∙◌, append-nil}
+use Rattle.std.specs.List.Sorted.{IsPermutation}
 use Rattle.form_collect.proofs.Stands.{totals_from, overflow_from}
-use Rattle.form_collect.proofs.Sorted.{term_order, monomials_of, monomials_less, monomials_more, monomials_made, collected_from_sorted}
+use Rattle.form_collect.proofs.Sorted.{monomials_of, monomials_less, monomials_more, monomials_made, collected_from_sorted}
 use Rattle.form_collect.proofs.collector.Collector.into_terms.Goals as goal
 
 pub returns-then-self-clause-overflow : goal.returns-then-self-clause-overflow
@@ -25,8 +21,7 @@ loop-term-preserved c =
 pub returns-clause-ok : goal.returns-clause-ok
 returns-clause-ok c = λ list h.
     let es = c.args.self.sums.entries in
-    let ms = c.sort_unstable_by.new.self.items in
+    let ms = c.in_ok-sorted.field-0.items in
     let made = sym c.loop-term.invariant ∙ monomials_made c.loop-term.terms.items c.loop-term.term-iterator c.in-None.ensures.steps.0 in
-    let moved : IsPermutation (monomials_of es) ms = rw made c.sort_unstable_by.ensures.permutation in
-    let sorted : IsSortedBy (λ a b. is_lt (term_order a b)) ms = c.sort_unstable_by.ensures.sorted (λ a b. is_lt (term_order a b)) (ranks_by order_total (λ (m : Monomial). m.term)) (answers_always _ _ _ (λ f a r g k. search rules)) in
-    collected_from_sorted es list ms c.into_iter-term-iterator.ensures.into_iter_gives.4 (totals_from c.args.self list c.if-self.false h) moved sorted
+    let moved : IsPermutation (monomials_of es) ms = rw made c.in_ok-sorted.ensures.moved in
+    collected_from_sorted es list ms c.into_iter-term-iterator.ensures.into_iter_gives.4 (totals_from c.args.self list c.if-self.false h) moved c.in_ok-sorted.ensures.rising

@@ -2,7 +2,7 @@ use Rattle.std.proofs.Common.{refl, arith}
 use Rattle.std.proofs.lemmas.Result.{err_from_is_err_and}
 use Rattle.form_expand.specs.Numbers.{raised}
 use Rattle.form_expand.proofs.Powered.{raised_made, raised_unmade, raised_all}
-use Rattle.form_expand.proofs.number.raised.Goals as goal
+use Rattle.form_expand.proofs.number.multiplied.Goals as goal
 
 pub loop-made-init : goal.loop-made-init
 unfolding raised

@@ -1,0 +1,35 @@
+use Rattle.std.proofs.Common.{◌≡◌, List, [], ◌∷◌, refl, sym, ap, ◌∙◌}
+use Rattle.std.specs.Prelude.{None}
+use Rattle.form_term.specs.declared.monomial.Monomial.{Monomial}
+use Rattle.form_normal.specs.Product.{number_alone}
+use Rattle.form_expand.specs.Kept.{listing}
+use Rattle.form_expand.specs.Listing.{Listing, single, limited, powers}
+use Rattle.form_expand.proofs.Listings.{limited_powers}
+use Rattle.form_expand.proofs.NumberPowers.{number_powered, one_item}
+use Rattle.form_expand.proofs.power.single_power.Goals as goal
+
+alone_list : (l : Listing) (ms : List Monomial) (m n : Monomial) → l.end ≡ None → ms ≡ l.terms → ms ≡ m ∷ [] → m ≡ n → l ≡ single n
+alone_list l ms m n done terms one same =
+    ap (λ ns. record { terms = ns; end = l.end }) (sym terms ∙ one ∙ ap (λ x. x ∷ []) same) ∙ ap (λ e. record { terms = n ∷ []; end = e }) done
+
+pub returns-then-is_one : goal.returns-then-is_one
+returns-then-is_one c =
+    let max = c.args.limit in
+    let m = c.term-item.result in
+    let f = m.coefficient in
+    let alone = c.if-not-is_alone.ensures.0 refl in
+    let one = one_item c.terms.result.now m c.in-len1.len_at_least c.in-len1.len_below c.term-item.is in
+    let number = ap (λ t. record { coefficient = f; term = t }) c.if-is_one.ensures in
+    ap (limited max) c.fraction_list.ensures
+    ∙ number_powered max alone.some f c.args.power c.requires
+    ∙ ap (λ l. powers max l c.args.power) (sym (alone_list (listing c.args.whole.now) c.terms.result.now m (number_alone f) alone.done c.terms.ensures one number))
+
+pub returns : goal.returns
+returns c =
+    let max = c.args.limit in
+    let m = c.term-item.result in
+    let alone = c.if-not-is_alone.ensures.0 refl in
+    let one = one_item c.terms.result.now m c.in-len1.len_at_least c.in-len1.len_below c.term-item.is in
+    ap (limited max) (c.in_ok-term_power.ensures max alone.some)
+    ∙ limited_powers max (single m) c.args.power
+    ∙ ap (λ l. powers max l c.args.power) (sym (alone_list (listing c.args.whole.now) c.terms.result.now m m alone.done c.terms.ensures one refl))

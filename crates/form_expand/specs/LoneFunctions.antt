@@ -1,0 +1,15 @@
+-- A term times a right side that is one function.
+use Rattle.std.specs.Prelude.{◌≡◌, ℕ, List, [], ◌∷◌}
+use Rattle.form_term.specs.declared.monomial.Monomial.{Monomial}
+use Rattle.form_tree.specs.declared.tree.Piece.{Piece}
+use Rattle.form_expand.specs.declared.lone_function.Timed.{Timed}
+use Rattle.form_expand.specs.declared.lone_function.Timed.TheVariants.{Made, Same}
+use Rattle.form_expand.specs.Left.{row}
+use Rattle.form_expand.specs.Listing.{single}
+use Rattle.form_expand.specs.Meanings.{Meanings}
+use Rattle.form_expand.specs.Reading.{list_of_pieces}
+
+-- the row of a term and the list of these pieces is the one term that was made, or the term is as it was
+abbrev pub IsTimed : ℕ → Meanings → List Piece → Monomial → Timed → Type 0
+IsTimed max all ps left (Made made) = row max (single left ∷ list_of_pieces max all ps ∷ []) ≡ single made
+IsTimed max all ps left (Same same) = same ≡ left
