@@ -242,7 +242,8 @@ misplaced names (Declared s) = misplaced_at s (lookup names s.name)
 abbrev pub delta_at : Spot → Spelled
 delta_at spot = record { name = codes "d_"; spot = spot }
 
--- the refusal of the first name of pieces, or this, where there is none
+-- The refusal of the first name of pieces, or this, where there is none. The name of a power is passed over: it is a wildcard
+-- of the pattern, and stands where it may.
 unfoldable pub first_misplaced : List Entry → List Piece → Refusal → Refusal
 first_misplaced names [] none = none
 first_misplaced names (written.Name link n ∷ rest) none = misplaced names n

@@ -139,7 +139,7 @@ is_single opened (written.Comma ∷ rest) = if opened == 0 then false else is_si
 is_single opened (written.EndOfCall ∷ rest) = if opened == 0 then true else is_single (opened - 1) rest
 is_single opened (_ ∷ rest) = is_single opened rest
 
--- the first name up to the end of the first call
+-- the first name up to the end of the first call, that of a power passed over
 unfoldable pub misplaced_to_end : List Entry → List Piece → Refusal → Refusal
 misplaced_to_end names [] none = none
 misplaced_to_end names (written.Name link n ∷ rest) none = misplaced names n

@@ -107,7 +107,7 @@ pub fn is_single(list: &[form_ast::Piece]) -> bool
     false
 }
 
-/// A refusal of the first name up to the end of arguments, or of the vector whose they are.
+/// A refusal of the first name up to the end of arguments, that of a power passed over, or of the vector whose they are.
 #[tactic(auto, unfolding(crate::specs::Walking::misplaced_to_end))]
 pub fn misplaced_in(
     alloc: Global,

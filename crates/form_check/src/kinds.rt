@@ -1,5 +1,5 @@
 //! What names stand for, and what can't stand there.
-ghost use Rattle.std.specs.Prelude.{◌≡◌, Some, Ok, IfOk, IfSome};
+ghost use Rattle.std.specs.Prelude.{◌≡◌, Bool, None, Some, Ok, ℕ, IfOk, IfSome};
 ghost use Rattle.form_base.specs.declared.cause.Cause.TheVariants.{WrongKind, Undeclared};
 ghost use Rattle.form_names.specs.Names.{lookup, kind_at};
 ghost use Rattle.form_check.specs.Refusal.{Gives, error_of};
@@ -72,6 +72,7 @@ pub fn misplaced(alloc: Global, names: &Names, named: &Named) -> Result<CheckErr
 pub fn plain_symbol(names: &Names, spelled: &Spelled) -> Option<Id>
     ensures stands { IfSome result (λ id. lookup names.now spelled.now.name ≡ Some id) }
     ensures kind { IfSome result (λ id. kind_at names.now id ≡ Some Kind.Symbol) }
+    ensures none { result ≡ None → (id : ℕ) → lookup names.now spelled.now.name ≡ Some id → kind_at names.now id ≡ Some Kind.Symbol → ⊥ }
 {
     let id = names.lookup(spelled.name.as_str())?;
     if matches!(names.kind(id), Kind::Symbol) {
@@ -84,7 +85,8 @@ pub fn plain_symbol(names: &Names, spelled: &Spelled) -> Option<Id>
 /// A function, and whether it commutes, where the name is declared as one.
 #[inline(always)]
 pub fn plain_head(names: &Names, spelled: &Spelled) -> Option<(Id, bool)>
-    ensures { IfSome result (λ f. head_named names.now (Named.Declared spelled.now) ≡ Ok (Head.Function f.0 f.1)) }
+    ensures some { IfSome result (λ f. head_named names.now (Named.Declared spelled.now) ≡ Ok (Head.Function f.0 f.1)) }
+    ensures none { result ≡ None → (id : ℕ) (is_commuting : Bool) → head_named names.now (Named.Declared spelled.now) ≡ Ok (Head.Function id is_commuting) → ⊥ }
 {
     let id = names.lookup(spelled.name.as_str())?;
     match names.kind(id) {

@@ -62,7 +62,7 @@ digits_rise (negsuc m) (negsuc n) e = by (ltb n 63) refl
         inr (omega (arith, below), ap is_told first)
 
 -- what stands in front decides
-key_rises : (n p q : ℕ) (f g : ℕ → ℤ) (o r : Bool) (a b : ℕ) → a < b → key_from n p f o a < key_from n q g r b
+pub key_rises : (n p q : ℕ) (f g : ℕ → ℤ) (o r : Bool) (a b : ℕ) → a < b → key_from n p f o a < key_from n q g r b
 unfolding key_from
 key_rises zero p q f g o r a b h = h
 key_rises (suc n) p q f g o r a b h =

@@ -7,4 +7,5 @@ pub mod ShortLists
 pub mod Sorted
 pub mod Stands
 pub mod Sums
+pub mod Ties
 pub mod Zero

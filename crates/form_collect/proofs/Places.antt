@@ -1,7 +1,7 @@
 -- The terms at the places of sorted keys are the terms in their order.
-use Rattle.std.proofs.Common.{◌≡◌, ℕ, suc, ◌+◌, ◌<◌, ◌≤◌, false, List, [], ◌∷◌, ◌++◌, map, length, get_or, set, drop, refl, ap, sym, ◌∙◌, subst, arith, append_assoc, append-nil}
-use Rattle.std.specs.Prelude.{All, min}
-use Rattle.std.specs.List.{AllByRecursion, IsDistinct, slice_get}
+use Rattle.std.proofs.Common.{◌≡◌, ℕ, suc, ◌+◌, ◌<◌, ◌≤◌, Bool, true, false, List, [], ◌∷◌, ◌++◌, map, length, get_or, set, fold, drop, refl, ap, sym, ◌∙◌, subst, arith, append_assoc, append-nil}
+use Rattle.std.specs.Prelude.{All, min, if◌then◌else◌}
+use Rattle.std.specs.List.{AllByRecursion, IsDistinct, list_all, slice_get}
 use Rattle.std.specs.List.Sorted.{IsPermutation, IsSorted}
 use Rattle.std.specs.Cmp.{IsTotalOrder, ranked}
 use Rattle.std.specs.Cmp.Lexicographic.{options_total}
@@ -20,29 +20,36 @@ use Rattle.form_term.specs.PowerLaws.{rise_lower}
 use Rattle.form_term.specs.TermLaws.{order_total}
 use Rattle.form_term.specs.Monomial.{unit}
 use Rattle.form_term.specs.declared.monomial.Monomial.{Monomial}
-use Rattle.form_collect.specs.Keys.{AreSorted, item_at, key_of, keyed_order, keys_from, same_place, term_order}
+use Rattle.form_collect.specs.Keys.{AreSorted, first_of, first_symbol, is_whole, item_at, key_of, keyed_order, keys_from, same_place, term_order, tie_of}
 use Rattle.form_collect.specs.declared.sorting.Keyed.{Keyed}
 use Rattle.form_collect.proofs.Digits.{keys_rise}
+use Rattle.form_collect.proofs.Ties.{ties_rise, all_from}
 
 pub term_order_total : IsTotalOrder term_order
 term_order_total = on_total (λ (m : Monomial). m.term) order_total
 
 pub keyed_order_total : (terms : List Monomial) → IsTotalOrder (keyed_order terms)
-keyed_order_total terms = then_total (on_total (λ (k : Keyed). k.key) nat_cmp_total) (on_total (λ (k : Keyed). slice_get terms k.place) (options_total term_order_total))
+keyed_order_total terms = then_total (on_total (λ (k : Keyed). k.key) nat_cmp_total) (then_total (on_total (λ (k : Keyed). k.tie) nat_cmp_total) (on_total (λ (k : Keyed). slice_get terms k.place) (options_total term_order_total)))
 
 -- none of a term's symbols is before this one
 abbrev pub Rises : ℕ → Monomial → Type 0
 Rises first m = RiseFrom first m.term.symbols
 
--- this is the key of the term at its place
-record IsKeyOf (first : ℕ) (terms : List Monomial) (k : Keyed) : Type 0 where
+-- where ties tell something, the key of this term tells all that is before functions
+abbrev pub Tells : ℕ → Bool → Monomial → Type 0
+Tells first told m = told ≡ true → is_whole first m.term ≡ true
+
+-- these are the key and the tie of the term at its place
+record IsKeyOf (first : ℕ) (told : Bool) (terms : List Monomial) (k : Keyed) : Type 0 where
   within : k.place < length terms
   key : k.key ≡ key_of first (item_at terms k).term
+  tie : k.tie ≡ (if told then tie_of (item_at terms k).term else 0)
   rises : Rises first (item_at terms k)
+  tells : Tells first told (item_at terms k)
 
 -- keys of terms stand as the terms do
-as_terms : (first : ℕ) (terms : List Monomial) (x y : Keyed) → IsKeyOf first terms x → IsKeyOf first terms y → keyed_order terms x y ≡ term_order (item_at terms x) (item_at terms y)
-as_terms first terms x y h k = by (nat_cmp x.key y.key) refl (ranked x.key y.key (nat_cmp x.key y.key) refl)
+as_terms : (first : ℕ) (told : Bool) (terms : List Monomial) (x y : Keyed) → IsKeyOf first told terms x → IsKeyOf first told terms y → keyed_order terms x y ≡ term_order (item_at terms x) (item_at terms y)
+as_terms first told terms x y h k = by (nat_cmp x.key y.key) refl (ranked x.key y.key (nat_cmp x.key y.key) refl)
   where
     t : Monomial
     t = item_at terms x
@@ -50,10 +57,22 @@ as_terms first terms x y h k = by (nat_cmp x.key y.key) refl (ranked x.key y.key
     u : Monomial
     u = item_at terms y
 
+    -- where a tie is lower and the keys are equal
+    lower : {a b : Keyed} → IsKeyOf first told terms a → IsKeyOf first told terms b → a.key ≡ b.key → a.tie < b.tie → term_order (item_at terms a) (item_at terms b) ≡ Less
+    lower {a} {b} l r same below =
+        let v = (item_at terms a).term in
+        let w = (item_at terms b).term in
+        ties_rise first told v w l.rises r.rises l.tells r.tells (sym l.key ∙ same ∙ r.key) (omega (arith, below, l.tie, r.tie))
+
+    tied : x.key ≡ y.key → nat_cmp x.key y.key ≡ Equal → (r : Ordering) → nat_cmp x.tie y.tie ≡ r → MatchOrdering r (x.tie < y.tie) (x.tie ≡ y.tie) (y.tie < x.tie) → keyed_order terms x y ≡ term_order t u
+    tied same e Less f below = rw (e, f) (sym (lower h k same below))
+    tied same e Greater f above = rw (e, f) (sym (order_total.antisymm t.term u.term ∙ ap ordering_reverse (lower k h (sym same) above)))
+    tied same e Equal f equal = rw (e, f, slice_get-get_or terms x.place unit h.within, slice_get-get_or terms y.place unit k.within) refl
+
     by : (r : Ordering) → nat_cmp x.key y.key ≡ r → MatchOrdering r (x.key < y.key) (x.key ≡ y.key) (y.key < x.key) → keyed_order terms x y ≡ term_order t u
     by Less e below = rw e (sym (keys_rise first t.term u.term h.rises k.rises (omega (arith, below, h.key, k.key))))
     by Greater e above = rw e (sym (order_total.antisymm t.term u.term ∙ ap ordering_reverse (keys_rise first u.term t.term k.rises h.rises (omega (arith, above, h.key, k.key)))))
-    by Equal e same = rw (e, slice_get-get_or terms x.place unit h.within, slice_get-get_or terms y.place unit k.within) refl
+    by Equal e same = tied same e (nat_cmp x.tie y.tie) refl (ranked x.tie y.tie (nat_cmp x.tie y.tie) refl)
 
 -- these terms stand at the end of others, from a place on
 record StandFrom (terms : List Monomial) (place : ℕ) (ms : List Monomial) : Type 0 where
@@ -70,49 +89,57 @@ module _ (terms : List Monomial) (place : ℕ) (m : Monomial) (ms : List Monomia
   next : StandFrom terms (suc place) ms
   next = record { item = λ i. let e : suc place + i ≡ place + suc i = omega arith in ap (λ n. get_or terms n unit) e ∙ s.item (suc i); long = let h = s.long in omega arith }
 
-keys_lawful : (first : ℕ) (terms : List Monomial) (place : ℕ) (ms : List Monomial) → StandFrom terms place ms → AllByRecursion (Rises first) ms → AllByRecursion (IsKeyOf first terms) (keys_from first place ms)
-keys_lawful first terms place [] s h = tt
-keys_lawful first terms place (m ∷ ms) s h =
+keys_lawful : (first : ℕ) (told : Bool) (terms : List Monomial) (place : ℕ) (ms : List Monomial) → StandFrom terms place ms → AllByRecursion (Rises first) ms → AllByRecursion (Tells first told) ms → AllByRecursion (IsKeyOf first told terms) (keys_from first told place ms)
+keys_lawful first told terms place [] s h w = tt
+keys_lawful first told terms place (m ∷ ms) s h w =
     let at = here terms place m ms s in
-    (record { within = let l = s.long in omega arith; key = ap (λ (x : Monomial). key_of first x.term) (sym at); rises = subst (Rises first) (sym at) h.0 }, keys_lawful first terms (suc place) ms (next terms place m ms s) h.1)
+    (record { within = let l = s.long in omega arith; key = ap (λ (x : Monomial). key_of first x.term) (sym at); tie = ap (λ (x : Monomial). if told then tie_of x.term else 0) (sym at); rises = subst (Rises first) (sym at) h.0; tells = subst (Tells first told) (sym at) w.0 }, keys_lawful first told terms (suc place) ms (next terms place m ms s) h.1 w.1)
 
-terms_again : (first : ℕ) (terms : List Monomial) (place : ℕ) (ms : List Monomial) → StandFrom terms place ms → map (item_at terms) (keys_from first place ms) ≡ ms
-terms_again first terms place [] s = refl
-terms_again first terms place (m ∷ ms) s = rw (here terms place m ms s, terms_again first terms (suc place) ms (next terms place m ms s)) refl
+terms_again : (first : ℕ) (told : Bool) (terms : List Monomial) (place : ℕ) (ms : List Monomial) → StandFrom terms place ms → map (item_at terms) (keys_from first told place ms) ≡ ms
+terms_again first told terms place [] s = refl
+terms_again first told terms place (m ∷ ms) s = rw (here terms place m ms s, terms_again first told terms (suc place) ms (next terms place m ms s)) refl
 
-apart_from : (first : ℕ) (k : Keyed) (place : ℕ) (ms : List Monomial) → k.place < place → AllByRecursion (λ u. same_place k u ≡ false) (keys_from first place ms)
-apart_from first k place [] h = tt
-apart_from first k place (m ∷ ms) h = (ne_eqb k.place place (λ e. omega (arith, e, h)), apart_from first k (suc place) ms (omega (arith, h)))
+apart_from : (first : ℕ) (told : Bool) (k : Keyed) (place : ℕ) (ms : List Monomial) → k.place < place → AllByRecursion (λ u. same_place k u ≡ false) (keys_from first told place ms)
+apart_from first told k place [] h = tt
+apart_from first told k place (m ∷ ms) h = (ne_eqb k.place place (λ e. omega (arith, e, h)), apart_from first told k (suc place) ms (omega (arith, h)))
 
-keys_apart : (first place : ℕ) (ms : List Monomial) → IsDistinct same_place (keys_from first place ms)
+keys_apart : (first : ℕ) (told : Bool) (place : ℕ) (ms : List Monomial) → IsDistinct same_place (keys_from first told place ms)
 unfolding IsDistinct
-keys_apart first place [] = tt
-keys_apart first place (m ∷ ms) = (apart_from first (record { key = key_of first m.term; place = place }) (suc place) ms (omega arith), keys_apart first (suc place) ms)
+keys_apart first told place [] = tt
+keys_apart first told place (m ∷ ms) = (apart_from first told (record { key = key_of first m.term; tie = if told then tie_of m.term else 0; place = place }) (suc place) ms (omega arith), keys_apart first told (suc place) ms)
 
 places_flip : (x y : Keyed) → same_place x y ≡ same_place y x
 places_flip x y = nat_eq_equiv.symm x.place y.place
 
+-- where ties tell something, all of the keys do
+all_tell : (first : ℕ) (told : Bool) (terms : List Monomial) → told ≡ list_all (λ m. is_whole first m.term) terms → AllByRecursion (Tells first told) terms
+all_tell first told terms e = by terms (λ yes. all_from (λ (m : Monomial). is_whole first m.term) terms (sym yes ∙ e))
+  where
+    by : (ms : List Monomial) → (told ≡ true → AllByRecursion (λ m. is_whole first m.term ≡ true) ms) → AllByRecursion (Tells first told) ms
+    by [] h = tt
+    by (m ∷ ms) h = (λ yes. (h yes).0, by ms (λ yes. (h yes).1))
+
 -- the keys of terms, and what is made of them by a sort
-module _ (first : ℕ) (terms : List Monomial) (keys moved : List Keyed) (rise : All (Rises first) terms) (made : keys ≡ keys_from first 0 terms) (same : IsPermutation keys moved) where
-  all_lawful : All (IsKeyOf first terms) moved
-  all_lawful = All-permutation (IsKeyOf first terms) keys moved same (subst (λ (ks : List Keyed). All (IsKeyOf first terms) ks) (sym made) (All-from_recursion (IsKeyOf first terms) (keys_from first 0 terms) (keys_lawful first terms 0 terms (all_stand terms) (recursion_from_All (Rises first) terms rise))))
+module _ (first : ℕ) (told : Bool) (terms : List Monomial) (keys moved : List Keyed) (rise : All (Rises first) terms) (whole : told ≡ list_all (λ m. is_whole first m.term) terms) (made : keys ≡ keys_from first told 0 terms) (same : IsPermutation keys moved) where
+  all_lawful : All (IsKeyOf first told terms) moved
+  all_lawful = All-permutation (IsKeyOf first told terms) keys moved same (subst (λ (ks : List Keyed). All (IsKeyOf first told terms) ks) (sym made) (All-from_recursion (IsKeyOf first told terms) (keys_from first told 0 terms) (keys_lawful first told terms 0 terms (all_stand terms) (recursion_from_All (Rises first) terms rise) (all_tell first told terms whole))))
 
   pub moved_within : All (λ k. k.place < length terms) moved
   moved_within = λ k d below. (all_lawful k d below).within
 
   pub moved_apart : IsDistinct same_place moved
-  moved_apart = IsDistinct-IsPermutation same_place places_flip keys moved same (subst (λ (ks : List Keyed). IsDistinct same_place ks) (sym made) (keys_apart first 0 terms))
+  moved_apart = IsDistinct-IsPermutation same_place places_flip keys moved same (subst (λ (ks : List Keyed). IsDistinct same_place ks) (sym made) (keys_apart first told 0 terms))
 
   still_sorted : IsSorted (keyed_order terms) moved → IsSorted term_order (map (item_at terms) moved)
   still_sorted sorted = λ k d low below.
-      let none : Keyed = record { key = 0; place = 0 } in
+      let none : Keyed = record { key = 0; tie = 0; place = 0 } in
       let long = length-map moved (item_at terms) in
       let x = get_or moved k none in
       let y = get_or moved (k + 1) none in
       let inside : k + 1 < length moved = omega (arith, below, long) in
       let first_is = get_or-map (item_at terms) moved k none d (omega (arith, inside)) in
       let next_is = get_or-map (item_at terms) moved (k + 1) none d inside in
-      let alike = as_terms first terms y x (all_lawful (k + 1) none inside) (all_lawful k none (omega (arith, inside))) in
+      let alike = as_terms first told terms y x (all_lawful (k + 1) none inside) (all_lawful k none (omega (arith, inside))) in
       ap (λ (z : Monomial). is_lt (term_order z (get_or (map (item_at terms) moved) k d))) next_is
       ∙ ap (λ (z : Monomial). is_lt (term_order (item_at terms y) z)) first_is
       ∙ sym (ap is_lt alike)
@@ -121,7 +148,7 @@ module _ (first : ℕ) (terms : List Monomial) (keys moved : List Keyed) (rise :
   -- the terms at the places of sorted keys are sorted
   pub in_order : (list : List Monomial) → IsSorted (keyed_order terms) moved → list ≡ map (item_at terms) moved → AreSorted terms list
   in_order list sorted is =
-      let at_keys : map (item_at terms) keys ≡ terms = ap (map (item_at terms)) made ∙ terms_again first terms 0 terms (all_stand terms) in
+      let at_keys : map (item_at terms) keys ≡ terms = ap (map (item_at terms)) made ∙ terms_again first told terms 0 terms (all_stand terms) in
       let permuted : IsPermutation terms (map (item_at terms) moved) = subst (λ (ms : List Monomial). IsPermutation ms (map (item_at terms) moved)) at_keys (IsPermutation-map (item_at terms) keys moved same) in
       subst (λ (ms : List Monomial). AreSorted terms ms) (sym is) (record { moved = permuted; rising = still_sorted sorted })
 
@@ -172,22 +199,23 @@ module _ (terms : List Monomial) (keys : List Keyed) where
       taken_next = next_taken k (drop (i + 1) keys) again
 
 -- the keys so far, and those of the terms that are left
-module _ (first : ℕ) (terms : List Monomial) where
+module _ (first : ℕ) (told : Bool) (terms : List Monomial) where
   abbrev pub AreKeys : List Keyed → ℕ → Type 0
-  AreKeys keys i = keys ++ keys_from first i (drop i terms) ≡ keys_from first 0 terms
+  AreKeys keys i = keys ++ keys_from first told i (drop i terms) ≡ keys_from first told 0 terms
 
-  pub keys_next : (keys : List Keyed) (i key : ℕ) (m : Monomial) → i < length terms → m ≡ get_or terms i m → key ≡ key_of first m.term → AreKeys keys i → AreKeys (keys ++ record { key = key; place = i } ∷ []) (i + 1)
-  keys_next keys i key m inside at is h =
+  pub keys_next : (keys : List Keyed) (i key tie : ℕ) (m : Monomial) → i < length terms → m ≡ get_or terms i m → key ≡ key_of first m.term → tie ≡ (if told then tie_of m.term else 0) → AreKeys keys i → AreKeys (keys ++ record { key = key; tie = tie; place = i } ∷ []) (i + 1)
+  keys_next keys i key tie m inside at is ties h =
       let more : drop i terms ≡ m ∷ drop (i + 1) terms = drop_more terms i m inside ∙ ap (λ (x : Monomial). x ∷ drop (i + 1) terms) (sym at) in
       let place : i + 1 ≡ suc i = omega arith in
-      append_assoc keys (record { key = key; place = i } ∷ []) (keys_from first (i + 1) (drop (i + 1) terms))
-      ∙ ap (λ (n : ℕ). keys ++ record { key = key; place = i } ∷ keys_from first n (drop (i + 1) terms)) place
-      ∙ ap (λ (n : ℕ). keys ++ record { key = n; place = i } ∷ keys_from first (suc i) (drop (i + 1) terms)) is
-      ∙ ap (λ (ms : List Monomial). keys ++ keys_from first i ms) (sym more)
+      append_assoc keys (record { key = key; tie = tie; place = i } ∷ []) (keys_from first told (i + 1) (drop (i + 1) terms))
+      ∙ ap (λ (n : ℕ). keys ++ record { key = key; tie = tie; place = i } ∷ keys_from first told n (drop (i + 1) terms)) place
+      ∙ ap (λ (n : ℕ). keys ++ record { key = n; tie = tie; place = i } ∷ keys_from first told (suc i) (drop (i + 1) terms)) is
+      ∙ ap (λ (n : ℕ). keys ++ record { key = key_of first m.term; tie = n; place = i } ∷ keys_from first told (suc i) (drop (i + 1) terms)) ties
+      ∙ ap (λ (ms : List Monomial). keys ++ keys_from first told i ms) (sym more)
       ∙ h
 
-  pub keys_end : (keys : List Keyed) (i : ℕ) → length terms ≤ i → AreKeys keys i → keys ≡ keys_from first 0 terms
-  keys_end keys i past h = sym (append-nil keys) ∙ ap (λ (ms : List Monomial). keys ++ keys_from first i ms) (sym (drop_all i terms past)) ∙ h
+  pub keys_end : (keys : List Keyed) (i : ℕ) → length terms ≤ i → AreKeys keys i → keys ≡ keys_from first told 0 terms
+  keys_end keys i past h = sym (append-nil keys) ∙ ap (λ (ms : List Monomial). keys ++ keys_from first told i ms) (sym (drop_all i terms past)) ∙ h
 
 -- no symbol of the terms is before this one if none of those that are left is
 abbrev pub StillRise : List Monomial → ℕ → ℕ → Type 0
@@ -201,3 +229,17 @@ module _ (terms : List Monomial) (first : ℕ) (i : ℕ) (h : StillRise terms fi
 
   pub rise_end : length terms ≤ i → All (Rises first) terms
   rise_end past = All-from_recursion (Rises first) terms (h first (omega arith) (subst (λ (ms : List Monomial). AllByRecursion (Rises first) ms) (sym (drop_all i terms past)) tt))
+
+-- the first symbol so far and those of the terms that are left give that of all terms
+abbrev pub IsFirst : List Monomial → ℕ → ℕ → Type 0
+IsFirst terms first i = fold (λ a m. min a (first_of m.term)) first (drop i terms) ≡ first_symbol terms
+
+pub first_next : (terms : List Monomial) (first i : ℕ) (m : Monomial) (own : ℕ) → i < length terms → m ≡ get_or terms i m → own ≡ first_of m.term → IsFirst terms first i → IsFirst terms (min first own) (i + 1)
+first_next terms first i m own inside at is h =
+    let more : m ∷ drop (i + 1) terms ≡ drop i terms = ap (λ (x : Monomial). x ∷ drop (i + 1) terms) at ∙ sym (drop_more terms i m inside) in
+    ap (λ (n : ℕ). fold (λ a (x : Monomial). min a (first_of x.term)) (min first n) (drop (i + 1) terms)) is
+    ∙ ap (λ (ms : List Monomial). fold (λ a (x : Monomial). min a (first_of x.term)) first ms) more
+    ∙ h
+
+pub first_end : (terms : List Monomial) (first i : ℕ) → length terms ≤ i → IsFirst terms first i → first ≡ first_symbol terms
+first_end terms first i past h = ap (λ (ms : List Monomial). fold (λ a (x : Monomial). min a (first_of x.term)) first ms) (sym (drop_all i terms past)) ∙ h

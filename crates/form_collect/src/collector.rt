@@ -5,6 +5,7 @@ ghost use Rattle.form_frac.specs.declared.frac_error.FracError.{FracError};
 ghost use Rattle.form_term.specs.declared.monomial.Monomial.{Monomial};
 ghost use Rattle.form_collect.specs.Collecting.{collected};
 
+use crate::Terms;
 use crate::sorting::sorted;
 use form_frac::{Frac, FracError};
 use form_term::{Monomial, Term};
@@ -82,9 +83,9 @@ impl Collector {
     }
 
     /// The collected list: the terms in their order, each with its sum, without those of sum 0.
-    pub fn into_terms(self) -> Result<Vec<Monomial>, CollectError>
+    pub fn into_terms(self) -> Result<Terms, CollectError>
         ensures ok { IfOk result (λ terms. (list : List Monomial) → IsCollectionOf self list →
-            collected list ≡ Some terms.items) }
+            collected list ≡ Some terms) }
         ensures overflow { result ≡ Err CollectError.Overflow → (list : List Monomial) → IsCollectionOf self list →
             collected list ≡ None }
     {

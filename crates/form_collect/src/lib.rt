@@ -5,6 +5,8 @@ mod collector;
 pub mod laws;
 mod short;
 mod sorting;
+mod terms;
 
 pub use collector::{CollectError, Collector};
 pub use short::collect_short;
+pub use terms::Terms;

@@ -1,5 +1,5 @@
 //! Short lists, collected without a hash table where they have two terms at most.
-ghost use Rattle.std.specs.Prelude.{◌≡◌, [], ◌∷◌, Some, IfOk, IfSome};
+ghost use Rattle.std.specs.Prelude.{◌≡◌, [], ◌∷◌, None, Some, Ok, IfOk, IfSome};
 ghost use Rattle.std.specs.Bool.{OnTrue};
 ghost use Rattle.form_collect.specs.Collecting.{collected};
 ghost use Rattle.form_collect.specs.Short.{AreOrdered, IsExchanged, IsAdded};
@@ -10,12 +10,13 @@ use form_term::{Monomial, compare};
 use std::alloc::{AllocError, Global};
 use std::cmp::Ordering;
 
-/// The collected list of a few terms. None where it isn't collected here, as where a sum of coefficients is out of range.
+/// The collected list of a few terms; None where a sum of coefficients is out of range.
 pub fn collect_short(
     alloc: Global,
     list: Vec<Monomial>,
 ) -> Result<Option<Vec<Monomial>>, AllocError>
-    ensures { IfOk result (λ found. IfSome found (λ terms. collected list.items ≡ Some terms.items)) }
+    ensures some { IfOk result (λ found. IfSome found (λ terms. collected list.items ≡ Some terms.items)) }
+    ensures none { result ≡ Ok None → collected list.items ≡ None }
 {
     if is_collected(&list) {
         return Ok(Some(list));
@@ -66,7 +67,8 @@ fn are_ordered(one: &Monomial, two: &Monomial, ordering: Ordering) -> bool
 /// The other way round, a list of two terms that is collected so.
 fn exchanged(mut list: Vec<Monomial>) -> Result<Option<Vec<Monomial>>, AllocError>
     requires { IsExchanged list.items }
-    ensures { IfOk result (λ found. IfSome found (λ terms. collected list.items ≡ Some terms.items)) }
+    ensures some { IfOk result (λ found. IfSome found (λ terms. collected list.items ≡ Some terms.items)) }
+    ensures none { result ≡ Ok None → collected list.items ≡ None }
 {
     let Some(two) = list.pop() else {
         return Ok(None);
@@ -108,7 +110,8 @@ fn sum_of(one: &Monomial, two: &Monomial) -> Option<Frac>
 /// The term of a list that has it twice, with this coefficient.
 fn one_term(mut list: Vec<Monomial>, coefficient: Frac) -> Result<Option<Vec<Monomial>>, AllocError>
     requires { IsAdded list.items coefficient }
-    ensures { IfOk result (λ found. IfSome found (λ terms. collected list.items ≡ Some terms.items)) }
+    ensures some { IfOk result (λ found. IfSome found (λ terms. collected list.items ≡ Some terms.items)) }
+    ensures none { result ≡ Ok None → collected list.items ≡ None }
 {
     let Some(_two) = list.pop() else {
         return Ok(None);
@@ -125,14 +128,15 @@ fn one_term(mut list: Vec<Monomial>, coefficient: Frac) -> Result<Option<Vec<Mon
 
 /// The collected list of any number of terms.
 fn collect_all(alloc: Global, list: Vec<Monomial>) -> Result<Option<Vec<Monomial>>, AllocError>
-    ensures { IfOk result (λ found. IfSome found (λ terms. collected list.items ≡ Some terms.items)) }
+    ensures some { IfOk result (λ found. IfSome found (λ terms. collected list.items ≡ Some terms.items)) }
+    ensures none { result ≡ Ok None → collected list.items ≡ None }
 {
     let mut collector = Collector::new(alloc);
     for item in list {
         collector.add(item)?;
     }
     match collector.into_terms() {
-        Ok(terms) => Ok(Some(terms)),
+        Ok(terms) => Ok(Some(terms.into_vec())),
         Err(CollectError::Overflow) => Ok(None),
         Err(CollectError::Memory) => Err(AllocError),
     }

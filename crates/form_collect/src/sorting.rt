@@ -1,13 +1,14 @@
 //! Sorting terms by numbers made of the exponents of a few symbols, which decide most comparisons.
-ghost use Rattle.std.specs.Prelude.{◌≡◌, ◌<◌, ◌≤◌, ◌+◌, ◌*◌, ◌^◌, ◌&&◌, None, All, IfOk, length, map, drop, set, if◌then◌else◌};
-ghost use Rattle.std.specs.List.{IsDistinct, slice_get};
+ghost use Rattle.std.specs.Prelude.{◌≡◌, ◌<◌, ◌≤◌, ◌+◌, ◌*◌, ◌^◌, ◌&&◌, ◌==◌, None, All, IfOk, length, map, drop, set, if◌then◌else◌};
+ghost use Rattle.std.specs.List.{IsDistinct, list_all, slice_get};
 ghost use Rattle.std.specs.Option.{option_cmp};
 ghost use Rattle.std.specs.List.Sorted.{IsPermutation, IsSorted};
 ghost use Rattle.form_term.specs.Monomial.{unit};
 ghost use Rattle.form_term.specs.Term.{RiseFrom, exponent_in, imaginary_exponent};
-ghost use Rattle.form_collect.specs.Keys.{AreSorted, digit, is_told, item_at, key_of, keyed_order, keys_from, same_place, term_order};
+ghost use Rattle.form_collect.specs.Keys.{AreSorted, arguments_digit, call_tie, digit, first_of, first_symbol, has_none_between, is_near, is_told, is_whole, item_at, key_of, keyed_order, keys_from, number_digit, piece_digit, same_place, sum_digit, term_order, tie_of};
 
-use form_term::{Monomial, Power, Term, compare};
+use crate::Terms;
+use form_term::{Call, Monomial, Piece, Power, Term, compare};
 use std::alloc::{AllocError, Global};
 use std::cmp::Ordering;
 use std::mem;
@@ -20,25 +21,30 @@ const PLACES: usize = 4_000_000_000;
 const SYMBOLS: u64 = 9;
 /// The digit of the exponent 0.
 const ZERO: u64 = 64;
+/// How many functions have ties of their own.
+const FUNCTIONS: u32 = 2047;
+/// The tie of those behind.
+const LAST_TIE: u32 = 2_146_435_073;
 
-/// A term in a list by its place, with its key.
+/// A term in a list by its place, with its key, and its tie, which decides where keys are equal.
 #[derive(Clone, Copy)]
 struct Keyed {
     key: u64,
+    tie: u32,
     place: u32,
 }
 
 /// These terms in their order.
-pub(crate) fn sorted(alloc: Global, mut terms: Vec<Monomial>) -> Result<Vec<Monomial>, AllocError>
-    ensures { IfOk result (λ list. AreSorted terms.items list.items) }
+pub(crate) fn sorted(alloc: Global, mut terms: Vec<Monomial>) -> Result<Terms, AllocError>
+    ensures { IfOk result (λ list. AreSorted terms.items list) }
 {
     if terms.len() <= SHORT {
         sort_plainly(&mut terms);
-        return Ok(terms);
+        return Ok(Terms::from_vec(terms));
     }
     if terms.len() > PLACES {
         sort_plainly(&mut terms);
-        return Ok(terms);
+        return Ok(Terms::from_vec(terms));
     }
     let list = sorted_by_keys(alloc, terms)?;
     Ok(list)
@@ -50,15 +56,17 @@ fn sort_plainly(terms: &mut [Monomial])
     terms.sort_unstable_by(|a, b| compare(&a.term, &b.term));
 }
 
-fn sorted_by_keys(alloc: Global, terms: Vec<Monomial>) -> Result<Vec<Monomial>, AllocError>
+fn sorted_by_keys(alloc: Global, terms: Vec<Monomial>) -> Result<Terms, AllocError>
     requires { length terms.items ≤ 4000000000 }
-    ensures { IfOk result (λ list. AreSorted terms.items list.items) }
+    ensures { IfOk result (λ list. AreSorted terms.items list) }
 {
     let first = first_symbol(&terms);
-    let mut keys = keys_of(alloc, &terms, first)?;
+    let is_told = are_whole(&terms, first);
+    let mut keys = keys_of(alloc, &terms, first, is_told)?;
     sort_keys(&mut keys, &terms);
+    let came = places_in(alloc, &keys)?;
     let list = by_places(alloc, terms, &keys)?;
-    Ok(list)
+    Ok(Terms::that_came(list, came))
 }
 
 fn sort_keys(keys: &mut Vec<Keyed>, terms: &[Monomial])
@@ -68,7 +76,7 @@ fn sort_keys(keys: &mut Vec<Keyed>, terms: &[Monomial])
     keys.sort_unstable_by(|a, b| compare_keyed(a, b, terms));
 }
 
-/// The order of two terms, by their keys and then by themselves.
+/// The order of two terms, by their keys, their ties and then by themselves.
 fn compare_keyed(a: &Keyed, b: &Keyed, terms: &[Monomial]) -> Ordering
     ensures { result ≡ keyed_order terms.now a.now b.now }
 {
@@ -76,6 +84,12 @@ fn compare_keyed(a: &Keyed, b: &Keyed, terms: &[Monomial]) -> Ordering
         return Ordering::Less;
     }
     if b.key < a.key {
+        return Ordering::Greater;
+    }
+    if a.tie < b.tie {
+        return Ordering::Less;
+    }
+    if b.tie < a.tie {
         return Ordering::Greater;
     }
     compare_at(terms, a.place, b.place)
@@ -104,17 +118,23 @@ fn compare_none(terms: &[Monomial], place: u32) -> Ordering
     }
 }
 
-/// The keys of these terms in their places.
-fn keys_of(alloc: Global, terms: &[Monomial], first: u32) -> Result<Vec<Keyed>, AllocError>
+/// The keys of these terms in their places, with their ties where these tell something.
+fn keys_of(
+    alloc: Global,
+    terms: &[Monomial],
+    first: u32,
+    is_told: bool,
+) -> Result<Vec<Keyed>, AllocError>
     requires short { length terms.now ≤ 4000000000 }
     requires rise { All (λ m. RiseFrom first m.term.symbols) terms.now }
-    ensures { IfOk result (λ keys. keys.items ≡ keys_from first 0 terms.now) }
+    ensures { IfOk result (λ keys. keys.items ≡ keys_from first is_told 0 terms.now) }
 {
     let mut keys = Vec::with_capacity(alloc, terms.len())?;
     let mut place: u32 = 0;
     for item in terms {
         let key = key_of(&item.term, first);
-        keys.push(Keyed { key, place })?;
+        let tie = tie_if(&item.term, is_told);
+        keys.push(Keyed { key, tie, place })?;
         place += 1;
     }
     Ok(keys)
@@ -122,7 +142,8 @@ fn keys_of(alloc: Global, terms: &[Monomial], first: u32) -> Result<Vec<Keyed>, 
 
 /// The symbol declared first that stands in these terms.
 fn first_symbol(terms: &[Monomial]) -> u32
-    ensures { All (λ m. RiseFrom result m.term.symbols) terms.now }
+    ensures is { result ≡ first_symbol terms.now }
+    ensures rise { All (λ m. RiseFrom result m.term.symbols) terms.now }
 {
     let mut first = u32::MAX;
     for item in terms {
@@ -133,7 +154,8 @@ fn first_symbol(terms: &[Monomial]) -> u32
 
 /// The first symbol of a term, and one that no term has where there is none.
 fn first_of(term: &Term) -> u32
-    ensures { RiseFrom result term.now.symbols }
+    ensures is { result ≡ first_of term.now }
+    ensures rise { RiseFrom result term.now.symbols }
 {
     let Some((power, _)) = term.powers().split_first() else {
         return u32::MAX;
@@ -223,6 +245,127 @@ fn digit_of(power: &Power) -> u64
     ZERO + size.min(63)
 }
 
+/// Whether the keys of these terms tell all that is before functions in their order.
+fn are_whole(terms: &[Monomial], first: u32) -> bool
+    ensures { result ≡ list_all (λ m. is_whole first m.term) terms.now }
+{
+    for item in terms {
+        if !is_whole(&item.term, first) {
+            return false;
+        }
+    }
+    true
+}
+
+fn is_whole(term: &Term, first: u32) -> bool
+    ensures { result ≡ is_whole first term.now }
+{
+    has_none_between(term) && are_near(term.powers(), u64::from(first) + SYMBOLS)
+}
+
+/// Whether there are no factors that stand between symbols and functions in the order.
+fn has_none_between(term: &Term) -> bool
+    ensures { result ≡ has_none_between term.now }
+{
+    term.dots().is_empty() && term.components().is_empty() && term.deltas().is_empty()
+}
+
+/// Whether a key tells all of these powers.
+fn are_near(powers: &[Power], end: u64) -> bool
+    ensures { result ≡ list_all (is_near end) powers.now }
+{
+    for power in powers {
+        if !is_near(power, end) {
+            return false;
+        }
+    }
+    true
+}
+
+fn is_near(power: &Power, end: u64) -> bool
+    ensures { result ≡ is_near end power.now }
+{
+    u64::from(power.symbol.position()) < end && power.exponent.unsigned_abs() < 63
+}
+
+fn tie_if(term: &Term, is_told: bool) -> u32
+    ensures { result ≡ (if is_told then tie_of term.now else 0) }
+{
+    if is_told {
+        return tie_of(term);
+    }
+    0
+}
+
+/// The tie of a term, which its first function gives.
+fn tie_of(term: &Term) -> u32
+    ensures { result ≡ tie_of term.now }
+{
+    let Some((call, _)) = term.functions().split_first() else {
+        return 0;
+    };
+    tie_of_call(call)
+}
+
+fn tie_of_call(call: &Call) -> u32
+    ensures { result ≡ call_tie call.now }
+{
+    let position = call.function().position();
+    if position < FUNCTIONS {
+        return 1 + position * 1_048_576 + digit_of_arguments(call.pieces());
+    }
+    LAST_TIE
+}
+
+fn digit_of_arguments(pieces: &[Piece]) -> u32
+    ensures is { result ≡ arguments_digit pieces.now }
+    ensures below { result ≤ 524289 }
+{
+    let Some((first, rest)) = pieces.split_first() else {
+        return 0;
+    };
+    match first {
+        Piece::Sum => digit_of_sum(rest),
+        _ => 0,
+    }
+}
+
+fn digit_of_sum(pieces: &[Piece]) -> u32
+    ensures is { result ≡ sum_digit pieces.now }
+    ensures below { result ≤ 524289 }
+{
+    let Some((first, _)) = pieces.split_first() else {
+        return 0;
+    };
+    digit_of_piece(first)
+}
+
+fn digit_of_piece(piece: &Piece) -> u32
+    ensures is { result ≡ piece_digit piece.now }
+    ensures below { result ≤ 524289 }
+{
+    match piece {
+        Piece::EndOfArguments => 0,
+        Piece::EndOfSum => 0,
+        Piece::Negative(_) => 0,
+        Piece::NegativeDot(_) => 0,
+        Piece::EndOfTerm(coefficient) => 1 + digit_of_number(coefficient.numerator),
+        _ => 524_289,
+    }
+}
+
+/// A numerator as a digit.
+fn digit_of_number(number: i128) -> u32
+    ensures is { result ≡ number_digit number }
+    ensures below { result ≤ 524287 }
+{
+    let size = number.unsigned_abs();
+    if number < 0 {
+        return 262_144 - (size.min(262_144) as u32);
+    }
+    262_144 + (size.min(262_143) as u32)
+}
+
 /// The terms at these places.
 fn by_places(
     alloc: Global,
@@ -247,4 +390,20 @@ fn take_at(alloc: Global, terms: &mut Vec<Monomial>, keyed: Keyed) -> Monomial
     ensures left { terms.new.items ≡ set terms.old.items keyed.place unit }
 {
     mem::replace(&mut terms[keyed.place as usize], Monomial::unit(alloc))
+}
+
+/// The places that terms have among these, in the order of the places that the keys tell.
+fn places_in(alloc: Global, keys: &[Keyed]) -> Result<Vec<u32>, AllocError>
+    ensures { IfOk result (λ places. length places.items ≡ length keys.now) }
+{
+    let mut places = Vec::with_capacity(alloc, keys.len())?;
+    places.resize(keys.len(), 0)?;
+    let mut stands: u32 = 0;
+    for keyed in keys {
+        if let Some(place) = places.get_mut(keyed.place as usize) {
+            *place = stands;
+        }
+        stands = stands.wrapping_add(1);
+    }
+    Ok(places)
 }

@@ -19,6 +19,7 @@ pub mod Modes
 pub mod Next
 pub mod NumberSums
 pub mod Numbers
+pub mod Paired
 pub mod Parentheses
 pub mod Parts
 pub mod Pieces

@@ -3,6 +3,7 @@ ghost use Rattle.form_tree.specs.Tree.{Sum, pieces_of_sum};
 ghost use Rattle.form_expand.specs.Expanding.{list_of_sum};
 ghost use Rattle.form_expand.specs.Kept.{listing};
 ghost use Rattle.form_expand.specs.Next.{Gives};
+ghost use Rattle.form_expand.specs.Reading.{list_of_pieces};
 
 use crate::ExpandError;
 use crate::literal_sum::literal_list;
@@ -67,10 +68,23 @@ pub fn whole_list<'a>(
 ) -> Result<Whole<'static>, AllocError>
     ensures { (s : Sum) → tree.now ≡ pieces_of_sum s → IfOk result (λ whole. listing whole ≡ list_of_sum limit names.now s) }
 {
-    if let Some(whole) = literal_list(alloc, names, tree, limit)? {
+    list_of(alloc, tree, limit, names)
+}
+
+/// The list of these pieces, all of it and its end.
+pub fn list_of<'a>(
+    alloc: Global,
+    pieces: &'a [Piece],
+    limit: u64,
+    names: &'a Standing,
+) -> Result<Whole<'static>, AllocError>
+    ensures { IfOk result (λ whole. listing whole ≡ list_of_pieces limit names.now pieces.now) }
+{
+    if let Some(whole) = literal_list(alloc, names, pieces, limit)? {
         return Ok(whole);
     }
-    drained(alloc, expand_tree(alloc, tree, limit, names))
+    let stream = Stream::new(alloc, pieces, limit, names, MOST_OUTSIDE);
+    drained(alloc, Expansion { stream })
 }
 
 /// All that is left of a list.

@@ -216,7 +216,7 @@ fn terms_of(collector: Collector) -> Result<Result<Vec<Monomial>, Refusal>, Allo
 {
     laws::collected_lists();
     match collector.into_terms() {
-        Ok(terms) => Ok(Ok(terms)),
+        Ok(terms) => Ok(Ok(terms.into_vec())),
         Err(CollectError::Overflow) => Ok(Err(Refusal {
             cause: Cause::Overflow,
         })),

@@ -6,7 +6,8 @@
 //! term of the front before it (`parenthesis`), or a function, whose arguments are written out and collected when it is first
 //! asked for (`function`). So recursion goes as deep as parentheses and functions stand within one another.
 //!
-//! A term is multiplied by a right side that is one function at once, without a list (`lone_function`).
+//! A term is multiplied at once by a right side that is one term (`paired`), and without a list by one that is a function
+//! (`lone_function`).
 //!
 //! Names go through what a match bound them to (`stored`, `value`): a symbol to the list of an expression, and a power to a
 //! whole number (`bound`, `ended`), an index, a vector and a function to others, and a field to arguments.
@@ -26,6 +27,7 @@ mod literal_sum;
 mod lone_function;
 mod number;
 mod number_sum;
+mod paired;
 mod parenthesis;
 mod power;
 mod product;
@@ -44,7 +46,7 @@ mod whole;
 pub use argument::argument_pieces;
 pub use error::ExpandError;
 pub use expansion::{Expansion, expand_tree, whole_list};
-pub use lone_function::{Timed, times_lone_function};
-pub use row::{Part, Row, alone_times};
-pub use stored::{Standing, Stored, Terms};
+pub use paired::{Paired, pair, times_list};
+pub use row::{Part, Row};
+pub use stored::{Standing, Stored};
 pub use whole::Whole;

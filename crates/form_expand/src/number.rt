@@ -34,7 +34,8 @@ pub fn number_list<'a>(alloc: Global, value: u128, power: i32) -> Whole<'a>
     of_fraction(alloc, base, size)
 }
 
-/// The fraction that a whole number to a power is; none where that is refused or no term.
+/// The fraction that a whole number to a power is, on a short way that gives up at what is refused, no term, or to the
+/// power 0.
 pub fn number_alone(value: u128, power: i32) -> Option<Frac>
     ensures { IfSome result (λ number. (number_list_of value power ≡ single (number_alone_of number)) × IsLowest number) }
 {

@@ -1,5 +1,6 @@
-ghost use Rattle.std.specs.Prelude.{◌≡◌, ◌≤◌, ◌++◌, ℕ, Some, None, IfOk, IfSome, OnOk, map, option_to_list};
+ghost use Rattle.std.specs.Prelude.{◌≡◌, ◌≤◌, [], ◌++◌, ℕ, Some, None, Ok, IfOk, IfSome, OnOk, map, option_to_list};
 ghost use Rattle.std.specs.Bool.{OnTrue};
+ghost use Rattle.form_term.specs.declared.monomial.Monomial.{Monomial as Item};
 ghost use Rattle.form_term.specs.Term.{one};
 ghost use Rattle.form_expand.specs.Kept.{listing};
 ghost use Rattle.form_expand.specs.Left.{times_by};
@@ -18,7 +19,7 @@ use form_term::{Monomial, Term};
 use std::alloc::{AllocError, Global};
 use std::mem;
 
-/// A list of one term to a power, as a list; none where it has more.
+/// A list of one term to a power, as a list; none where it isn't one term, or may have none.
 pub fn single_power<'a>(
     alloc: Global,
     limit: u64,
@@ -26,7 +27,8 @@ pub fn single_power<'a>(
     power: u128,
 ) -> Result<Option<Whole<'a>>, AllocError>
     requires { 1 ≤ power }
-    ensures { IfOk result (λ found. IfSome found (λ made. limited limit (listing made) ≡ powers limit (listing whole.now) power)) }
+    ensures some { IfOk result (λ found. IfSome found (λ made. limited limit (listing made) ≡ powers limit (listing whole.now) power)) }
+    ensures none { result ≡ Ok None → (t : Item) → listing whole.now ≡ single t → limit ≡ 0 }
 {
     if !whole.is_alone(limit) {
         return Ok(None);
@@ -139,6 +141,9 @@ impl<'a> Power<'a> {
     pub fn new(alloc: Global, whole: Whole<'a>, later: u32) -> Power<'a>
         ensures whole { result.whole ≡ whole.entry }
         ensures later { result.later ≡ later }
+        ensures top { result.top ≡ None }
+        ensures below { result.below.items ≡ [] }
+        ensures waiting { result.waiting.items ≡ [] }
     {
         Power {
             whole,

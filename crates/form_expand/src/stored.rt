@@ -8,46 +8,11 @@ ghost use Rattle.form_expand.specs.Stored.{Rise, terms_in};
 
 use crate::value::{expression_in, function_in, index_in, turned, vector_in, whole_number};
 use form_base::Id;
+use form_collect::Terms;
 use form_match::{Bindings, Wildcard};
 use form_term::{Component, Index, Monomial, Piece, laws, terms_in};
 use std::alloc::{AllocError, Global};
 use std::marker::Model;
-
-/// The terms of an expression, in a clause their list.
-#[derive(Debug, Drop)]
-pub struct Terms {
-    items: Vec<Monomial>,
-}
-
-impl Model for Terms {
-    ghost use Rattle.std.specs.Prelude.{List};
-    ghost use Rattle.form_term.specs.declared.monomial.Monomial.{Monomial};
-
-    ghost Value = { List Monomial };
-
-    ghost view = { λ t. t.items.items };
-}
-
-impl Terms {
-    pub fn from_vec(items: Vec<Monomial>) -> Terms
-        ensures { result ≡ items.items }
-    {
-        Terms { items }
-    }
-
-    pub fn as_slice(&self) -> &[Monomial]
-        ensures { result.now ≡ self.now }
-    {
-        self.items.as_slice()
-    }
-
-    pub fn into_vec(self) -> Vec<Monomial>
-        ensures { result.items ≡ self }
-    {
-        let Terms { items } = self;
-        items
-    }
-}
 
 /// An expression whose terms a right side may name.
 #[derive(Debug, Drop)]

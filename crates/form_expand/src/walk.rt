@@ -22,7 +22,7 @@ pub struct Walk<'a> {
 
 impl<'a> Walk<'a> {
     pub fn new(whole: Whole<'a>) -> Walk<'a>
-        ensures { result.whole ≡ whole.entry }
+        ensures { result ≡ record { whole = whole.entry; place = 0; count = 0 } }
     {
         Walk {
             whole,

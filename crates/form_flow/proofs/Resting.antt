@@ -12,9 +12,12 @@ use Rattle.form_match.specs.Values.{Binding}
 use Rattle.form_rewrite.specs.Taking.{take_out, taken_so_far}
 use Rattle.form_expand.specs.Left.{row}
 use Rattle.form_expand.specs.Listing.{Listing, single}
+use Rattle.form_expand.specs.Paired.{IsPaired}
 use Rattle.form_expand.specs.Parts.{part_list}
+use Rattle.form_expand.specs.declared.paired.Paired.{Paired}
+use Rattle.form_expand.specs.declared.paired.Paired.TheVariants as paired
 use Rattle.form_expand.specs.declared.row.Part as parts
-use Rattle.form_flow.specs.Applied.{IsApplied, IsPut}
+use Rattle.form_flow.specs.Applied.{IsApplied}
 use Rattle.form_flow.specs.Parts.{ArePartsOf, IsPart}
 use Rattle.form_flow.specs.Ready.{IsReady, rewriting_of}
 use Rattle.form_flow.specs.Rests.{cut_list, rest_in}
@@ -23,8 +26,6 @@ use Rattle.form_flow.proofs.Zips.{zip_end, zip_next}
 use Rattle.form_flow.specs.declared.compiled.CompiledPart.{CompiledPart}
 use Rattle.form_flow.specs.declared.rest.Remaining.{Remaining}
 use Rattle.form_flow.specs.declared.between.Inserted.{Inserted}
-use Rattle.form_flow.specs.declared.rest.Applied.{Applied}
-use Rattle.form_flow.specs.declared.rest.Applied.TheVariants as applied
 
 -- what a part takes, by its trees
 pub part_takes : (max : ℕ) (r : Rest) (part : CompiledPart) (p : Part) (cuts : List ℕ) (x : Option Taken) → cuts ≡ map (λ c. c.0) r.cuts → IsReady max part → IsPart (rewriting_of part) p
@@ -65,19 +66,19 @@ unmatched max r (p ∷ ps) h =
 
 -- a term as it was
 pub stays_same : (max : ℕ) (ps : List Part) (m : Monomial) (r : Remaining) (same : Monomial) → rest_in r ≡ rest_of max ps m.term → r.has_matched ≡ false
-    → m.coefficient ≡ same.coefficient → r.left ≡ same.term → IsApplied m (rewritten max ps m) (applied.One same)
+    → m.coefficient ≡ same.coefficient → r.left ≡ same.term → IsApplied m (rewritten max ps m) (paired.One same)
 unfolding rewritten
 stays_same max ps m r same is none number left =
     let test : (rest_of max ps m.term).has_matched ≡ false = ap (λ x. x.has_matched) (sym is) ∙ none in
     let kept : r.left ≡ m.term = ap (λ x. x.left) (is ∙ unmatched max (untouched m.term) ps test) in
-    subst (λ (b : Bool). IsApplied m (cond b (Some (list_of_rest max m (rest_of max ps m.term))) None) (applied.One same))
+    subst (λ (b : Bool). IsApplied m (cond b (Some (list_of_rest max m (rest_of max ps m.term))) None) (paired.One same))
     (sym test) (ap (λ n. record { coefficient = n; term = same.term }) (sym number) ∙ ap (λ t. record { coefficient = m.coefficient; term = t }) (sym left ∙ kept))
 
 -- the row of what is left and what is put in
 pub is_put : (max : ℕ) (ps : List Part) (m first : Monomial) (r : Remaining) (row : Box Listing Global) → r.limit ≡ max → rest_in r ≡ rest_of max ps m.term → r.has_matched ≡ true
     → m.coefficient ≡ first.coefficient → r.left ≡ first.term
     → row.value ≡ list_of_rest max first (record { left = first.term; cuts = map (cut_list max) r.between.items; behind = map (part_list max) r.behind.items; has_matched = true })
-    → IsApplied m (rewritten max ps m) (applied.Put row)
+    → IsApplied m (rewritten max ps m) (paired.Row row)
 unfolding rewritten
 is_put max ps m first r row within is matched number left made =
     let test : (rest_of max ps m.term).has_matched ≡ true = ap (λ x. x.has_matched) (sym is) ∙ matched in
@@ -85,7 +86,7 @@ is_put max ps m first r row within is matched number left made =
     ap (λ n. record { left = r.left; cuts = map (cut_list n) r.between.items; behind = map (part_list n) r.behind.items; has_matched = true }) (sym within)
     ∙ ap (λ b. record { left = r.left; cuts = map (cut_list r.limit) r.between.items; behind = map (part_list r.limit) r.behind.items; has_matched = b }) (sym matched)
     ∙ is in
-    subst (λ (b : Bool). IsApplied m (cond b (Some (list_of_rest max m (rest_of max ps m.term))) None) (applied.Put row))
+    subst (λ (b : Bool). IsApplied m (cond b (Some (list_of_rest max m (rest_of max ps m.term))) None) (paired.Row row))
     (sym test)
     (made
     ∙ ap (λ t. list_of_rest max first (record { left = t; cuts = map (cut_list max) r.between.items; behind = map (part_list max) r.behind.items; has_matched = true })) (sym left)
@@ -94,16 +95,16 @@ is_put max ps m first r row within is matched number left made =
 
 -- a part alone that doesn't match
 pub one_unmatched : (max : ℕ) (p : Part) (m : Monomial) (t : Term) → untouched m.term ≡ and_part max (untouched m.term) p → t ≡ m.term
-    → IsApplied m (rewritten max (p ∷ []) m) (applied.One (record { coefficient = m.coefficient; term = t }))
+    → IsApplied m (rewritten max (p ∷ []) m) (paired.One (record { coefficient = m.coefficient; term = t }))
 unfolding rewritten
 one_unmatched max p m t is same =
-    subst (λ (r : Rest). IsApplied m (cond r.has_matched (Some (list_of_rest max m r)) None) (applied.One (record { coefficient = m.coefficient; term = t })))
+    subst (λ (r : Rest). IsApplied m (cond r.has_matched (Some (list_of_rest max m r)) None) (paired.One (record { coefficient = m.coefficient; term = t })))
     is (ap (λ u. record { coefficient = m.coefficient; term = u }) same)
 
 -- a part alone that matches once
-pub one_matched : (max : ℕ) (p : Part) (m : Monomial) (left : Term) (bs : List Binding) (a : Applied)
+pub one_matched : (max : ℕ) (p : Part) (m : Monomial) (left : Term) (bs : List Binding) (a : Paired)
     → and_taken max p.right (untouched m.term) (Some (taken_so_far left [] (bs ∷ []) 1)) ≡ and_part max (untouched m.term) p
-    → IsPut (row max (single (record { coefficient = m.coefficient; term = left }) ∷ right_with max p.right bs ∷ [])) a → IsApplied m (rewritten max (p ∷ []) m) a
+    → IsPaired (row max (single (record { coefficient = m.coefficient; term = left }) ∷ right_with max p.right bs ∷ [])) a → IsApplied m (rewritten max (p ∷ []) m) a
 unfolding rewritten
 one_matched max p m left bs a is put = subst (λ (r : Rest). IsApplied m (cond r.has_matched (Some (list_of_rest max m r)) None) a) is put
 

@@ -8,9 +8,10 @@ use Rattle.form_expand.specs.declared.error.ExpandError.{ExpandError}
 use Rattle.form_expand.specs.declared.error.ExpandError.TheVariants.{Refused, Memory}
 use Rattle.form_expand.specs.Listing.{Listing, nothing, single, refusal, before, followed, limited}
 use Rattle.form_expand.specs.Next.{Gives}
-use Rattle.form_flow.specs.Applied.{IsApplied, IsPut}
-use Rattle.form_flow.specs.declared.rest.Applied.{Applied}
-use Rattle.form_flow.specs.declared.rest.Applied.TheVariants as applied
+use Rattle.form_expand.specs.Paired.{IsPaired}
+use Rattle.form_expand.specs.declared.paired.Paired.{Paired}
+use Rattle.form_expand.specs.declared.paired.Paired.TheVariants as paired
+use Rattle.form_flow.specs.Applied.{IsApplied}
 use Rattle.form_flow.specs.Left.{Passes, Steps, and_outer, left_in, left_of_frame, left_of_frames, left_waiting, left_with, on_its_way}
 use Rattle.form_flow.specs.Rewriting.{Part, carried, going_on, outputs, rewritten, through, through_each}
 use Rattle.form_flow.specs.declared.outputs.Frame.{Frame}
@@ -199,7 +200,7 @@ unfolding carried
 comes_out max m pss past = ap (λ qss. carried max qss m) past
 
 module _ (max : ℕ) (m : Monomial) (pss later : List (List Part)) (ps : List Part) (here : pss ≡ ps ∷ later) where
-  acts : (l : Listing) (a : Applied) → ((k : Listing) → IsPut k a → k ≡ l) → (IsApplied m None a → ⊥) → IsApplied m (rewritten max ps m) a
+  acts : (l : Listing) (a : Paired) → ((k : Listing) → IsPaired k a → k ≡ l) → (IsApplied m None a → ⊥) → IsApplied m (rewritten max ps m) a
       → carried max pss m ≡ through (carried max later) l
   acts l a put never is = acted max m pss later ps l here (some (rewritten max ps m) is)
     where
@@ -207,25 +208,25 @@ module _ (max : ℕ) (m : Monomial) (pss later : List (List Part)) (ps : List Pa
       some None h = absurd (never h)
       some (Some k) h = ap Some (put k h)
 
-  pub becomes : (last : (l : Listing) → followed l nothing ≡ l) (next : Monomial) → IsApplied m (rewritten max ps m) (applied.One next)
+  pub becomes : (last : (l : Listing) → followed l nothing ≡ l) (next : Monomial) → IsApplied m (rewritten max ps m) (paired.One next)
       → carried max later next ≡ carried max pss m
   becomes last next is = by (rewritten max ps m) refl is
     where
-      by : (o : Option Listing) → rewritten max ps m ≡ o → IsApplied m o (applied.One next) → carried max later next ≡ carried max pss m
+      by : (o : Option Listing) → rewritten max ps m ≡ o → IsApplied m o (paired.One next) → carried max later next ≡ carried max pss m
       by None e h = ap (carried max later) h ∙ sym (not_acted max m pss later ps here e)
       by (Some l) e h =
           let go = carried max later in
           sym (acted max m pss later ps l here e
           ∙ ap (through go) h ∙ through_before go next nothing ∙ ap (followed (go next)) (through_nothing go) ∙ last (go next))
 
-  pub becomes_nothing : IsApplied m (rewritten max ps m) applied.Nothing → carried max pss m ≡ nothing
-  becomes_nothing is = acts nothing applied.Nothing (λ k h. h) (λ h. h) is ∙ through_nothing (carried max later)
+  pub becomes_nothing : IsApplied m (rewritten max ps m) paired.Nothing → carried max pss m ≡ nothing
+  becomes_nothing is = acts nothing paired.Nothing (λ k h. h) (λ h. h) is ∙ through_nothing (carried max later)
 
-  pub becomes_refused : (cause : Cause) → IsApplied m (rewritten max ps m) (applied.Refused cause) → carried max pss m ≡ refusal cause
-  becomes_refused cause is = acts (refusal cause) (applied.Refused cause) (λ k h. h) (λ h. h) is ∙ through_refusal (carried max later) cause
+  pub becomes_refused : (cause : Cause) → IsApplied m (rewritten max ps m) (paired.Refused cause) → carried max pss m ≡ refusal cause
+  becomes_refused cause is = acts (refusal cause) (paired.Refused cause) (λ k h. h) (λ h. h) is ∙ through_refusal (carried max later) cause
 
-  pub becomes_row : (row : Box Listing Global) → IsApplied m (rewritten max ps m) (applied.Put row) → carried max pss m ≡ through (carried max later) row.value
-  becomes_row row is = acts row.value (applied.Put row) (λ k h. sym h) (λ h. h) is
+  pub becomes_row : (row : Box Listing Global) → IsApplied m (rewritten max ps m) (paired.Row row) → carried max pss m ≡ through (carried max later) row.value
+  becomes_row row is = acts row.value (paired.Row row) (λ k h. sym h) (λ h. h) is
 
 pub still_none : (max : ℕ) (s : State) (w : Option Waiting) (pss : List (List Part)) → s.waiting ≡ None → w ≡ None
     → left_in max (record { given = s.given; waiting = w; frames = s.frames }) pss ≡ left_in max s pss

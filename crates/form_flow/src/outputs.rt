@@ -7,9 +7,9 @@ ghost use Rattle.form_flow.specs.Parts.{AreParts};
 ghost use Rattle.form_flow.specs.Rewriting.{Part as AsTrees, carried, outputs as outputs_of};
 
 use crate::compiled::CompiledModule;
-use crate::rest::{Applied, rewritten};
+use crate::rest::rewritten;
 use form_base::Cause;
-use form_expand::{ExpandError, Row, laws};
+use form_expand::{ExpandError, Paired, Row, laws};
 use form_term::Monomial;
 use std::alloc::Global;
 
@@ -165,10 +165,10 @@ fn through_statements<'a>(
     while let Some(group) = compiled.group(behind) {
         let after = behind + 1;
         match rewritten(alloc, max, group, compiled.nothing(), item)? {
-            Applied::One(next) => item = next,
-            Applied::Put(row) => return Ok(Gone::Acts(Frame { row, behind: after })),
-            Applied::Nothing => return Ok(Gone::Nothing),
-            Applied::Refused(cause) => return Err(ExpandError::Refused(cause)),
+            Paired::One(next) => item = next,
+            Paired::Row(row) => return Ok(Gone::Acts(Frame { row, behind: after })),
+            Paired::Nothing => return Ok(Gone::Nothing),
+            Paired::Refused(cause) => return Err(ExpandError::Refused(cause)),
         }
         behind = after;
     }

@@ -1,16 +1,14 @@
 //! What is left of a term while the parts of a statement take from it, and the row that comes of that.
 ghost use Rattle.std.specs.Prelude.{◌≡◌, ◌++◌, ◌∷◌, [], IfOk, List, Some, false, flat_map, map, replicate};
-ghost use Rattle.std.specs.List.{AllZip};
 ghost use Rattle.form_term.specs.declared.monomial.Monomial.{Monomial as Item};
 ghost use Rattle.form_tree.specs.Tree.{Sum, pieces_of_sum};
 ghost use Rattle.form_expand.specs.Expanding.{list_of_sum};
-ghost use Rattle.form_expand.specs.Kept.{listing};
 ghost use Rattle.form_expand.specs.Left.{row};
-ghost use Rattle.form_expand.specs.Listing.{limited, single};
+ghost use Rattle.form_expand.specs.Listing.{single};
 ghost use Rattle.form_expand.specs.Meanings.{bound_to, no_meanings};
+ghost use Rattle.form_expand.specs.Paired.{IsPaired};
 ghost use Rattle.form_expand.specs.Parts.{part_list};
-ghost use Rattle.form_expand.specs.Walks.{IsAlone};
-ghost use Rattle.form_flow.specs.Applied.{IsApplied, IsPut};
+ghost use Rattle.form_flow.specs.Applied.{IsApplied};
 ghost use Rattle.form_flow.specs.Parts.{ArePartsOf, IsPart};
 ghost use Rattle.form_flow.specs.Ready.{AreReady, IsReady, rewriting_of, rewritings_of};
 ghost use Rattle.form_flow.specs.Rests.{cut_list, names_in, rest_in};
@@ -18,11 +16,7 @@ ghost use Rattle.form_flow.specs.Rewriting.{Part as AsTrees, and_part as and_par
 
 use crate::between::{Inserted, all_bound, is_any_by_match, places, put_between, row_of};
 use crate::compiled::{CompiledPart, Group};
-use form_base::Cause;
-use form_expand::{
-    ExpandError, Part, Row, Standing, Timed, Whole, alone_times, laws, times_lone_function,
-    whole_list,
-};
+use form_expand::{Paired, Part, Standing, laws, pair, times_list, whole_list};
 use form_frac::Frac;
 use form_match::Bindings;
 use form_rewrite::{Single, Take, Taken, take_out};
@@ -40,24 +34,14 @@ pub struct Remaining<'a> {
     pub has_matched: bool,
 }
 
-/// What a statement makes of a term.
-#[derive(Drop)]
-pub enum Applied<'a> {
-    /// One term: the same, where no part matched, or that to which what is left and what is put in come.
-    One(Monomial),
-    Nothing,
-    Refused(Cause),
-    Put(Box<Row<'a>>),
-}
-
-/// What a statement makes of a term.
+/// What a statement makes of a term: the same, where no part matched.
 pub fn rewritten<'a>(
     alloc: Global,
     limit: u64,
     group: &'a Group<'a>,
     nothing: &'a Standing,
     item: Monomial,
-) -> Result<Applied<'a>, AllocError>
+) -> Result<Paired<'a>, AllocError>
     requires ready { AreReady limit group.now }
     requires nothing { nothing.now ≡ no_meanings }
     ensures { (ps : List AsTrees) → ArePartsOf (rewritings_of group.now) ps →
@@ -77,7 +61,7 @@ fn by_several<'a>(
     group: &'a Group<'a>,
     nothing: &'a Standing,
     item: Monomial,
-) -> Result<Applied<'a>, AllocError>
+) -> Result<Paired<'a>, AllocError>
     requires ready { AreReady limit group.now }
     requires nothing { nothing.now ≡ no_meanings }
     ensures { (ps : List AsTrees) → ArePartsOf (rewritings_of group.now) ps →
@@ -93,7 +77,7 @@ fn put_together<'a>(
     alloc: Global,
     coefficient: Frac,
     rest: Remaining<'a>,
-) -> Result<Applied<'a>, AllocError>
+) -> Result<Paired<'a>, AllocError>
     ensures { (ps : List AsTrees) (m : Item) → m.coefficient ≡ coefficient → rest_in rest.entry ≡ rest_of rest.entry.limit ps m.term →
         IfOk result (λ applied. IsApplied m (rewritten_of rest.entry.limit ps m) applied) }
 {
@@ -109,10 +93,10 @@ fn put_together<'a>(
         term: left,
     };
     if !has_matched {
-        return Ok(Applied::One(left));
+        return Ok(Paired::One(left));
     }
     let row = row_of(alloc, limit, left, between, behind)?;
-    Ok(Applied::Put(Box::new(alloc, row)?))
+    Ok(Paired::Row(Box::new(alloc, row)?))
 }
 
 /// What a part that has no `also` beside it makes of a term.
@@ -122,7 +106,7 @@ fn by_one<'a>(
     part: &'a CompiledPart<'a>,
     nothing: &'a Standing,
     item: Monomial,
-) -> Result<Applied<'a>, AllocError>
+) -> Result<Paired<'a>, AllocError>
     requires ready { IsReady limit part.now }
     requires nothing { nothing.now ≡ no_meanings }
     ensures { (p : AsTrees) → IsPart (rewriting_of part.now) p →
@@ -132,7 +116,7 @@ fn by_one<'a>(
     let right = part.rewriting.right.as_slice();
     let Monomial { coefficient, term } = item;
     match take_out(alloc, term, &[], &part.pattern, option)? {
-        Take::Untaken(term) => Ok(Applied::One(Monomial { coefficient, term })),
+        Take::Untaken(term) => Ok(Paired::One(Monomial { coefficient, term })),
         Take::Single(single) => {
             let Single { left, bindings } = single;
             let left = Monomial {
@@ -154,7 +138,7 @@ fn put_taken<'a>(
     nothing: &'a Standing,
     coefficient: Frac,
     taken: Taken,
-) -> Result<Applied<'a>, AllocError>
+) -> Result<Paired<'a>, AllocError>
     requires { nothing.now ≡ no_meanings }
     ensures { (p : AsTrees) (m : Item) → right.now ≡ pieces_of_sum p.right → m.coefficient ≡ coefficient →
         and_taken_of limit p.right (untouched m.term) (Some taken) ≡ and_part_of limit (untouched m.term) p →
@@ -188,19 +172,16 @@ fn times_right_side<'a>(
     nothing: &'a Standing,
     left: Monomial,
     bindings: Bindings,
-) -> Result<Applied<'a>, AllocError>
+) -> Result<Paired<'a>, AllocError>
     requires { nothing.now ≡ no_meanings }
     ensures { (s : Sum) → right.now ≡ pieces_of_sum s →
-        IfOk result (λ applied. IsPut (row limit (single left ∷ right_with limit s bindings ∷ [])) applied) }
+        IfOk result (λ paired. IsPaired (row limit (single left ∷ right_with limit s bindings ∷ [])) paired) }
 {
     laws::lists_of_trees();
     let Some(names) = bound(alloc, bindings) else {
         return times_tree(alloc, limit, right, nothing, left);
     };
-    match times_lone_function(alloc, left, right, limit, &names)? {
-        Timed::Made(item) => Ok(Applied::One(item)),
-        Timed::Same(left) => times_list(alloc, limit, right, left, &names),
-    }
+    times_list(alloc, limit, right, left, &names)
 }
 
 /// A term, and a right side behind it in which nothing is bound.
@@ -211,64 +192,12 @@ fn times_tree<'a>(
     right: &'a [Piece],
     nothing: &'a Standing,
     left: Monomial,
-) -> Result<Applied<'a>, AllocError>
+) -> Result<Paired<'a>, AllocError>
     ensures { (s : Sum) → right.now ≡ pieces_of_sum s →
-        IfOk result (λ applied. IsPut (row limit (single left ∷ list_of_sum limit nothing.now s ∷ [])) applied) }
+        IfOk result (λ paired. IsPaired (row limit (single left ∷ list_of_sum limit nothing.now s ∷ [])) paired) }
 {
     laws::lists_of_trees();
     pair(alloc, limit, left, Part::Tree(right, nothing))
-}
-
-/// A term, and a right side by what names stand for behind it.
-#[inline(never)]
-fn times_list<'a>(
-    alloc: Global,
-    limit: u64,
-    right: &'a [Piece],
-    left: Monomial,
-    names: &Standing,
-) -> Result<Applied<'a>, AllocError>
-    ensures { (s : Sum) → right.now ≡ pieces_of_sum s →
-        IfOk result (λ applied. IsPut (row limit (single left ∷ list_of_sum limit names.now s ∷ [])) applied) }
-{
-    laws::lists_of_trees();
-    let whole = whole_list(alloc, right, limit, names)?;
-    if whole.is_alone(limit) {
-        return times_alone(alloc, limit, left, &whole);
-    }
-    pair(alloc, limit, left, Part::List(whole))
-}
-
-/// A term times the only one of a list.
-fn times_alone<'a>(
-    alloc: Global,
-    limit: u64,
-    left: Monomial,
-    list: &Whole,
-) -> Result<Applied<'a>, AllocError>
-    requires { IsAlone limit list.now }
-    ensures { IfOk result (λ applied. IsPut (row limit (single left ∷ limited limit (listing list.now) ∷ [])) applied) }
-{
-    match alone_times(alloc, left, list) {
-        Ok(Some(item)) => Ok(Applied::One(item)),
-        Ok(None) => Ok(Applied::Nothing),
-        Err(ExpandError::Refused(cause)) => Ok(Applied::Refused(cause)),
-        Err(ExpandError::Memory) => Err(AllocError),
-    }
-}
-
-/// The row of a term and a list behind it.
-#[inline(never)]
-fn pair<'a>(
-    alloc: Global,
-    limit: u64,
-    left: Monomial,
-    list: Part<'a>,
-) -> Result<Applied<'a>, AllocError>
-    ensures { IfOk result (λ applied. IsPut (row limit (single left ∷ part_list limit list.entry ∷ [])) applied) }
-{
-    let row = Row::pair(alloc, limit, left, list)?;
-    Ok(Applied::Put(Box::new(alloc, row)?))
 }
 
 /// What is left of a term once all parts took from it.

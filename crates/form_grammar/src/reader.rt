@@ -1,4 +1,4 @@
-ghost use Rattle.std.specs.Prelude.{◌≡◌, None, false, map};
+ghost use Rattle.std.specs.Prelude.{◌≡◌, is_some, false, map};
 ghost use Rattle.form_ast.specs.declared.expr.Named.TheVariants.{Declared};
 ghost use Rattle.form_ast.specs.declared.expr.Piece.TheVariants as by_piece;
 ghost use Rattle.form_grammar.specs.declared.effect.Expected.TheVariants.{Exponent, Operator};
@@ -108,7 +108,7 @@ fn with_number(
 
 /// Whether the piece is a name that may have arguments.
 fn may_be_called(piece: &Piece) -> bool
-    ensures { result ≡ false → changed_by Change.Call piece.now ≡ None }
+    ensures { result ≡ is_some (changed_by Change.Call piece.now) }
 {
     match piece {
         Piece::Name(Link::Over, _) => false,

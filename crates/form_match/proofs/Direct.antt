@@ -1,6 +1,6 @@
 -- What is tried straight on: one argument after another, and one function after another.
 use Rattle.std.proofs.Common.{◌≡◌, ℕ, suc, ◌+◌, ◌<◌, ◌≤◌, ◌==◌, Bool, true, false, not, ◌||◌, if◌then◌else◌, ℤ, pos, List, [], ◌∷◌, ◌++◌, length, drop, take, get_or, Option, Some, None, option_map, option_and_then, option_to_list, refl, sym, ap, subst, ◌∙◌, append-nil, arith, eqb-true, eq-eqb, take-take, length-take}
-use Rattle.std.specs.Prelude.{All, IfOk, IfSome, Result, flat_map, nat_abs}
+use Rattle.std.specs.Prelude.{All, IfOk, Result, flat_map, nat_abs}
 use Rattle.std.specs.List.{list_any, filter_map, cons_option, enumerate_from}
 use Rattle.std.proofs.lemmas.Bool.{eqb-false, ne_eqb}
 use Rattle.std.proofs.lemmas.List.Elements.{All-head, All-tail}
@@ -25,7 +25,7 @@ use Rattle.form_match.specs.Learning.{Tells, chosen_of, learnt_of}
 use Rattle.form_match.specs.Matching.{Host, Choice, absent_choice, and_asked, asked_function, asked_number, clashes, is_fixed_argument, symbol_choice, taking, whole_choice}
 use Rattle.form_match.specs.Parts.{HasFirst}
 use Rattle.form_match.specs.States.{Open, factors, arguments, State, state, start, binding_too, asking_too, with_choice, with_function, moves, first_found, reach}
-use Rattle.form_match.specs.Straight.{LeadsTo, is_power, is_single, only_choice, whole_or_absent}
+use Rattle.form_match.specs.Straight.{LeadsTo, are_single, ends_straight, is_power, is_single, is_straight, is_straight_call, only_choice, whole_or_absent}
 use Rattle.form_match.specs.Symbols.{power_at}
 use Rattle.form_match.specs.Values.{Binding}
 use Rattle.form_match.proofs.Attempting.{any_is, asking_is, chosen, no_arguments, not_chosen, some_argument, taking_clash, taking_free}
@@ -34,12 +34,11 @@ use Rattle.form_match.proofs.Plainly.{not_here}
 -- ---- what is found
 
 -- what is told of one, told of another that is the same
-pub told_of : (o : Option Bool) (found other : Option Match) (us : List Use) (bs : List Binding) → found ≡ other → IfSome o (λ b. Finds b other us bs) → IfSome o (λ b. Finds b found us bs)
-told_of o found other us bs same told = subst (λ (m : Option Match). IfSome o (λ b. Finds b m us bs)) (sym same) told
+pub told_if : {E : Type 0} (r : Result Bool E) (found other : Option Match) (us : List Use) (bs : List Binding) → found ≡ other → IfOk r (λ b. Finds b other us bs) → IfOk r (λ b. Finds b found us bs)
+told_if r found other us bs same told = subst (λ (m : Option Match). IfOk r (λ b. Finds b m us bs)) (sym same) told
 
-pub told_if : {E : Type 0} (r : Result (Option Bool) E) (found other : Option Match) (us : List Use) (bs : List Binding) → found ≡ other → IfOk r (λ o. IfSome o (λ b. Finds b other us bs))
-    → IfOk r (λ o. IfSome o (λ b. Finds b found us bs))
-told_if r found other us bs same told = subst (λ (m : Option Match). IfOk r (λ o. IfSome o (λ b. Finds b m us bs))) (sym same) told
+pub finds_too : (b : Bool) (found other : Option Match) (us : List Use) (bs : List Binding) → found ≡ other → Finds b other us bs → Finds b found us bs
+finds_too b found other us bs same told = subst (λ (m : Option Match). Finds b m us bs) (sym same) told
 
 first_in_both : (ss rest : List State) → first_found (ss ++ rest) ≡ option_or (first_found ss) (first_found rest)
 first_in_both [] rest = refl
@@ -174,6 +173,43 @@ all_end table ps (q ∷ qs) h us bs b empty test =
     subst (λ (c : Bool). Finds c (first_found (reach table (pieces.EndOfArguments ∷ ps) (state (arguments (arguments_of (q ∷ qs)) ∷ factors h us ∷ []) bs))) us bs) (sym (test ∙ ne_eqb (length (q ∷ qs)) 0 (λ e. omega (arith, e))))
     (ap (λ (xs : List terms.Argument). first_found (reach table (pieces.EndOfArguments ∷ ps) (state (arguments xs ∷ factors h us ∷ []) bs))) first.2)
 
+-- behind arguments that have one candidate each stands their end
+pub single_behind : (p : PatternPiece) (ps : List PatternPiece) → are_single (p ∷ ps) ≡ true → is_single p ≡ true → are_single ps ≡ true
+single_behind p ps all single = sym (ap (λ (b : Bool). if b then are_single ps else ends_straight p ps) single) ∙ all
+
+end_alone : (p : PatternPiece) (ps : List PatternPiece) → ends_straight p ps ≡ true → (p ≡ pieces.EndOfArguments) × (ps ≡ [])
+end_alone (pieces.Symbol n k) ps ends = cc
+end_alone (pieces.Whole n m) ps ends = cc
+end_alone (pieces.Dot p q k) ps ends = cc
+end_alone (pieces.Component v i) ps ends = cc
+end_alone (pieces.Delta i j) ps ends = cc
+end_alone (pieces.Function n) ps ends = cc
+end_alone (pieces.Word n) ps ends = cc
+end_alone (pieces.Call n) ps ends = cc
+end_alone pieces.EndOfArguments [] ends = (refl, refl)
+end_alone pieces.EndOfArguments (q ∷ qs) ends = cc
+end_alone pieces.EndOfWord ps ends = cc
+end_alone (pieces.Fixed k) ps ends = cc
+end_alone (pieces.Any sort n) ps ends = cc
+end_alone (pieces.Field w) ps ends = cc
+end_alone pieces.Product ps ends = cc
+end_alone pieces.EndOfProduct ps ends = cc
+
+pub single_end : (table : List (Option (List Piece))) (p : PatternPiece) (ps : List PatternPiece) (left : List Piece) (h : Host) (us : List Use) (bs : List Binding) (b : Bool)
+    → are_single (p ∷ ps) ≡ true → is_single p ≡ false → b ≡ (length left == 0)
+    → Finds b (first_found (reach table (p ∷ ps) (state (arguments (arguments_of left) ∷ factors h us ∷ []) bs))) us bs
+single_end table p ps left h us bs b all other test =
+    let end = end_alone p ps (sym (ap (λ (c : Bool). if c then are_single ps else ends_straight p ps) other) ∙ all) in
+    subst (λ (q : PatternPiece). Finds b (first_found (reach table (q ∷ ps) (state (arguments (arguments_of left) ∷ factors h us ∷ []) bs))) us bs) (sym end.0)
+    (all_end table ps left h us bs b end.1 test)
+
+-- behind powers of symbols stands a function
+pub powers_behind : (p : PatternPiece) (ps : List PatternPiece) → is_straight (p ∷ ps) ≡ true → is_power p ≡ true → is_straight ps ≡ true
+powers_behind p ps all power = sym (ap (λ (b : Bool). if b then is_straight ps else is_straight_call p ps) power) ∙ all
+
+pub call_alone : (p : PatternPiece) (ps : List PatternPiece) → is_straight (p ∷ ps) ≡ true → is_power p ≡ false → is_straight_call p ps ≡ true
+call_alone p ps all other = sym (ap (λ (b : Bool). if b then is_straight ps else is_straight_call p ps) other) ∙ all
+
 -- ---- a function
 
 module _ (g : State → List State) (os : List Open) (old : List Binding) (asks : Option (List Binding)) where
@@ -207,6 +243,18 @@ module _ (table : List (Option (List Piece))) (n : Name) (ps : List PatternPiece
       first_of_option (reach table ps) (with_function n h us [] bs (place, c)) (filter_map (with_function n h us [] bs) (enumerate_from (place + 1) cs))
       ∙ ap (λ (o : Option State). option_or (first_found (flat_map (reach table ps) (option_to_list o))) (first_from (place + 1) cs))
       (taking_free us (uses.Function place) (asking_too (arguments (arguments_of c.pieces) ∷ factors h (us ++ uses.Function place ∷ []) ∷ []) bs (asked_function n c.function)) free)
+
+  function_clashes : (cs : List Call) (i place : ℕ) (c : Call) → i < length cs → c ≡ get_or cs i c → list_any (λ v. clashes v (uses.Function place)) us ≡ true
+      → first_from place (drop i cs) ≡ first_from (place + 1) (drop (i + 1) cs)
+  function_clashes cs i place c within is clash =
+      ap (first_from place) (drop_more cs i c within ∙ ap (λ (x : Call). x ∷ drop (i + 1) cs) (sym is))
+      ∙ ap (λ (o : Option State). first_found (flat_map (reach table ps) (cons_option o (filter_map (with_function n h us [] bs) (enumerate_from (place + 1) (drop (i + 1) cs))))))
+      (taking_clash us (uses.Function place) (asking_too (arguments (arguments_of c.pieces) ∷ factors h (us ++ uses.Function place ∷ []) ∷ []) bs (asked_function n c.function)) clash)
+
+  pub clashes_here : (cs : List Call) (i place number : ℕ) → number ≡ place → (c : Call) → i < length cs → c ≡ get_or cs i c → list_any (λ v. clashes v (uses.Function number)) us ≡ true
+      → first_from place (drop i cs) ≡ first_from (place + 1) (drop (i + 1) cs)
+  clashes_here cs i place number at c within is clash =
+      function_clashes cs i place c within is (subst (λ (k : ℕ). list_any (λ v. clashes v (uses.Function k)) us ≡ true) at clash)
 
   module _ (cs : List Call) (i place : ℕ) (c : Call) (within : i < length cs) (is : c ≡ get_or cs i c) (free : list_any (λ v. clashes v (uses.Function place)) us ≡ false) where
     here_then : first_from place (drop i cs) ≡ option_or (first_at place c) (first_from (place + 1) (drop (i + 1) cs))

@@ -12,7 +12,7 @@ use Rattle.form_term.specs.declared.power.DotPower.{DotPower}
 use Rattle.form_term.specs.declared.index.Component.{Component}
 use Rattle.form_term.specs.declared.index.Delta.{Delta}
 use Rattle.form_term.specs.Term as terms
-use Rattle.form_term.specs.Term.{Term, Call, IsTerm, exponent_of, exponent_in, pieces_of_argument}
+use Rattle.form_term.specs.Term.{Term, Call, IsTerm, exponent_of, pieces_of_argument}
 use Rattle.form_term.specs.Arguments.{arguments_of}
 use Rattle.form_tree.specs.declared.pattern.Name.{Name}
 use Rattle.form_tree.specs.declared.pattern.Name.TheVariants.{Itself, Wild}

@@ -4,7 +4,7 @@ use Rattle.std.specs.Prelude.{flat_map, filter}
 use Rattle.std.specs.List.{list_any, filter_map, cons_option, enumerate_from, range_with_len}
 use Rattle.form_term.specs.declared.piece.Piece.{Piece}
 use Rattle.form_term.specs.Term as terms
-use Rattle.form_term.specs.Term.{Term, Call, Summand, pieces_of_argument as pieces_of_one}
+use Rattle.form_term.specs.Term.{Term, Call, pieces_of_argument as pieces_of_one}
 use Rattle.form_term.specs.Arguments.{arguments_of}
 use Rattle.form_tree.specs.declared.pattern.PatternPiece.{PatternPiece}
 use Rattle.form_tree.specs.declared.pattern.PatternPiece.TheVariants as pieces

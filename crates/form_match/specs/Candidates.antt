@@ -3,7 +3,7 @@ use Rattle.std.specs.Prelude.{ℕ, zero, suc, ◌+◌, ◌-◌, ◌*◌, nat_le,
 use Rattle.std.specs.List.{filter_map, range_with_len}
 use Rattle.form_term.specs.declared.piece.Piece.{Piece}
 use Rattle.form_term.specs.Term as terms
-use Rattle.form_term.specs.Term.{Call, pieces_of_arguments}
+use Rattle.form_term.specs.Term.{pieces_of_arguments}
 use Rattle.form_tree.specs.declared.pattern.Name.{Name}
 use Rattle.form_tree.specs.declared.pattern.PatternPiece.{PatternPiece}
 use Rattle.form_tree.specs.declared.pattern.PatternPiece.TheVariants as pieces

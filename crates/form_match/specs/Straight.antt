@@ -1,5 +1,5 @@
 -- What is found straight on, where each piece has one candidate at most.
-use Rattle.std.specs.Prelude.{◌≡◌, Bool, true, false, List, [], ◌∷◌, ◌++◌, Option, Some, None, option_and_then}
+use Rattle.std.specs.Prelude.{◌≡◌, Bool, true, false, if◌then◌else◌, List, [], ◌∷◌, ◌++◌, Option, Some, None, option_and_then}
 use Rattle.form_term.specs.declared.piece.Piece.{Piece}
 use Rattle.form_term.specs.declared.power.Power.{Power}
 use Rattle.form_tree.specs.declared.pattern.Name.{Name}
@@ -24,6 +24,29 @@ abbrev pub is_power : PatternPiece → Bool
 is_power (pieces.Symbol (Itself s) k) = true
 is_power (pieces.Whole (Itself s) m) = true
 is_power p = false
+
+-- what stands behind a function's name where each of its arguments has one candidate and nothing follows the function
+abbrev pub ends_straight : PatternPiece → List PatternPiece → Bool
+ends_straight pieces.EndOfArguments [] = true
+ends_straight p ps = false
+
+abbrev pub are_single : List PatternPiece → Bool
+are_single [] = false
+are_single (p ∷ ps) = if is_single p then are_single ps else ends_straight p ps
+
+-- powers of symbols that are no wildcards, and then at most one function, each of whose arguments has one candidate
+abbrev pub is_straight_call : PatternPiece → List PatternPiece → Bool
+is_straight_call (pieces.Function n) ps = are_single ps
+is_straight_call p ps = false
+
+abbrev pub is_straight : List PatternPiece → Bool
+is_straight [] = true
+is_straight (p ∷ ps) = if is_power p then is_straight ps else is_straight_call p ps
+
+-- at most one such function
+abbrev pub is_call_alone : List PatternPiece → Bool
+is_call_alone [] = true
+is_call_alone (p ∷ ps) = is_straight_call p ps
 
 -- the power of such a symbol
 abbrev pub named_power : Name → List Power → Option Power

@@ -1,7 +1,7 @@
 //! What the factors of a pattern that have no arguments take of a term, a candidate at a time.
 ghost use Rattle.std.specs.Prelude.{◌≡◌, ◌+◌, ◌==◌, ◌||◌, if◌then◌else◌, nat_abs, nat_le, IfOk, length, take};
 ghost use Rattle.form_term.specs.Term.{exponent_in as exponent_in_powers};
-ghost use Rattle.form_match.specs.Asking.{component_at, delta_at, delta_choice, dot_at, dot_choice, symbol_at, whole_at};
+ghost use Rattle.form_match.specs.Asking.{component_at, delta_at, delta_choice, dot_at, symbol_at, whole_at};
 ghost use Rattle.form_match.specs.Learning.{Chooses, chosen_of};
 ghost use Rattle.form_match.specs.Matching.{absent_choice, and_asked, asked_vector, taking, component_choice, fits as fits_exponent, is_uncut as is_uncut_by, symbol_choice, whole_choice};
 ghost use Rattle.form_match.specs.declared.uses.Use.TheVariants as uses;

@@ -1,5 +1,5 @@
 //! Whether a term has nothing that the first factor of a pattern may take: then no search is begun.
-ghost use Rattle.std.specs.Prelude.{◌≡◌, ℕ, ◌==◌, ◌&&◌, ◌||◌, not, Bool, true, List, Option, None};
+ghost use Rattle.std.specs.Prelude.{◌≡◌, ℕ, ◌==◌, ◌&&◌, not, Bool, true, List, Option, None};
 ghost use Rattle.std.specs.List.{list_all};
 ghost use Rattle.form_term.specs.declared.piece.Piece.{Piece};
 ghost use Rattle.form_match.specs.Lacking.{lacks as lacks_for, lacks_pair as lacks_pair_of};

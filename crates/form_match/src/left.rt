@@ -1,7 +1,6 @@
-ghost use Rattle.std.specs.Prelude.{◌≡◌, ◌++◌, ◌+◌, ◌<◌, ◌≤◌, ◌^◌, ℕ, ◌-ℤ◌, [], ◌∷◌, All, IsTrue, IfOk, OnOk, length, nat_abs, nat_lt, take, drop, slice_index_or};
+ghost use Rattle.std.specs.Prelude.{◌≡◌, ◌++◌, ◌+◌, ◌<◌, ◌^◌, ◌-ℤ◌, [], All, IsTrue, IfOk, OnOk, length, nat_abs, nat_lt, take, drop};
 ghost use Rattle.std.specs.Bool.{OnTrue};
 ghost use Rattle.std.specs.List.{list_any};
-ghost use Rattle.form_term.specs.Term.{exponent_in};
 ghost use Rattle.form_match.specs.Fits.{Fits, FitsExponent};
 ghost use Rattle.form_match.specs.Left.{left_of as left_of_term, dots_left as dots_left_of, powers_left as powers_left_of, symbol_taken as symbol_taken_by, dot_taken as dot_taken_by, taken, takes_component, takes_delta, takes_function, untaken, without_stretch as without_stretch_of, word_left as word_left_of};
 ghost use Rattle.form_match.specs.Matching.{are_apart};

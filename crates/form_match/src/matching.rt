@@ -8,6 +8,7 @@ ghost use Rattle.form_match.specs.Matching.{first_match as first_match_of, first
 ghost use Rattle.form_match.specs.Attempts.{table_of};
 ghost use Rattle.form_match.specs.Frames.{ground_of};
 ghost use Rattle.form_match.specs.States.{first_found, reach, start};
+ghost use Rattle.form_match.specs.Straight.{is_straight};
 ghost use Rattle.form_match.specs.Symbols.{is_plain};
 
 use crate::frames::Ground;
@@ -73,23 +74,21 @@ pub fn first_of(
     searched(alloc, &outermost, pieces)
 }
 
-/// The first match of a pattern that may be tried straight on.
+/// The first match of a pattern that is tried straight on.
 #[inline(never)]
 fn straight_first(
     alloc: Global,
     outermost: &Ground,
     pieces: &[PatternPiece],
 ) -> Result<Option<Match>, AllocError>
-    requires { IsTerm outermost.now.term.now }
+    requires lawful { IsTerm outermost.now.term.now }
+    requires straight { is_straight pieces.now ≡ true }
     ensures { IfOk result (λ m.
         m ≡ first_found (reach (table_of outermost.now.fixed.now) pieces.now (start (ground_of outermost.now)))) }
 {
     let mut takes = Uses::new(alloc);
     let mut bindings = Bindings::new(alloc);
-    let tried = straight_match(&mut takes, &mut bindings, outermost, pieces)?;
-    let Some(is_found) = tried else {
-        return searched(alloc, outermost, pieces);
-    };
+    let is_found = straight_match(&mut takes, &mut bindings, outermost, pieces)?;
     if is_found {
         return Ok(Some(Match { takes, bindings }));
     }

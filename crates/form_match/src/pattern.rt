@@ -1,7 +1,9 @@
 ghost use Rattle.std.specs.Prelude.{◌≡◌, map, option_map, IfOk};
 ghost use Rattle.std.specs.List.{list_all, list_any};
 ghost use Rattle.form_match.specs.Ready.{is_itself, is_plain_piece, is_whole_piece, ready};
+ghost use Rattle.form_match.specs.Straight.{is_straight as is_straight_pattern};
 
+use crate::straight::is_straight;
 use form_term::Call;
 use form_tree::{Name, PatternPiece};
 use std::alloc::{AllocError, Global};
@@ -13,16 +15,20 @@ use std::marker::Model;
 pub struct Pattern<'a> {
     pieces: &'a [PatternPiece],
     fixed: Vec<Option<Call>>,
-    /// Whether each piece seems to have one candidate at most. Nothing is claimed of it: what tries so may give up.
+    /// Whether it is tried straight on.
     is_straight: bool,
 }
 
 impl<'a> Model for Pattern<'a> {
+    ghost use Rattle.std.specs.Prelude.{◌≡◌};
     ghost use Rattle.form_match.specs.Ready.{ReadyPattern, ready};
+    ghost use Rattle.form_match.specs.Straight.{is_straight as is_straight_pattern};
 
     ghost Value = { ReadyPattern };
 
     ghost view = { λ p. ready p.pieces.now p.fixed.items };
+
+    ghost invariant = { λ p. p.is_straight ≡ is_straight_pattern p.pieces.now };
 }
 
 impl<'a> Pattern<'a> {
@@ -37,7 +43,7 @@ impl<'a> Pattern<'a> {
         Ok(Pattern {
             pieces,
             fixed,
-            is_straight: seems_straight(pieces),
+            is_straight: is_straight(pieces),
         })
     }
 
@@ -54,8 +60,10 @@ impl<'a> Pattern<'a> {
         self.fixed.as_slice()
     }
 
-    /// Whether it may be tried straight on.
-    pub(crate) fn is_straight(&self) -> bool {
+    /// Whether it is tried straight on.
+    pub(crate) fn is_straight(&self) -> bool
+        ensures { result ≡ is_straight_pattern self.now.pieces }
+    {
         self.is_straight
     }
 
@@ -71,25 +79,6 @@ impl<'a> Pattern<'a> {
         ensures { result ≡ list_any is_whole_piece self.now.pieces }
     {
         self.pieces.iter().any(|piece| is_whole(piece))
-    }
-}
-
-/// Whether a pattern has powers of symbols that are no wildcards, and at most one function, with arguments of one candidate.
-fn seems_straight(pieces: &[PatternPiece]) -> bool {
-    match pieces.split_last() {
-        Some((_end, others)) => others.iter().all(|piece| is_straight(piece)),
-        None => false,
-    }
-}
-
-fn is_straight(piece: &PatternPiece) -> bool {
-    match piece {
-        PatternPiece::Symbol(name, _) => is_itself(name),
-        PatternPiece::Whole(name, _) => is_itself(name),
-        PatternPiece::Function(_) => true,
-        PatternPiece::Fixed(_) => true,
-        PatternPiece::Any(_, _) => true,
-        _ => false,
     }
 }
 

@@ -11,8 +11,7 @@ ghost use Rattle.form_match.specs.Frames.{ground_of};
 ghost use Rattle.form_match.specs.Learning.{Chooses, chosen_of};
 ghost use Rattle.form_match.specs.Matching.{Host, asked_function};
 ghost use Rattle.form_match.specs.States.{Open, arguments, asking_too, factors, first_found, moves, reach, start, state};
-ghost use Rattle.form_match.specs.Straight.{FindsOne, IsBehind, LeadsTo, is_power as is_power_piece, is_single as is_single_piece, named_power as named_power_in, only_choice};
-ghost use Rattle.form_match.specs.Values.{Binding};
+ghost use Rattle.form_match.specs.Straight.{FindsOne, IsBehind, LeadsTo, are_single as are_single_pieces, ends_straight as ends_straight_by, is_call_alone, is_power as is_power_piece, is_single as is_single_piece, is_straight as is_straight_pattern, is_straight_call as is_straight_call_by, named_power as named_power_in, only_choice};
 
 use crate::arguments::{ask_argument, first_argument, is_fixed_argument, lawful_arguments};
 use crate::asking::ask_function;
@@ -25,30 +24,77 @@ use form_term::{Call, Piece, Power};
 use form_tree::{Name, PatternPiece};
 use std::alloc::AllocError;
 
-/// Whether such a pattern is found, and what it takes and binds then; none where it is another one.
+/// Whether a pattern is such a one.
+pub fn is_straight(pieces: &[PatternPiece]) -> bool
+    ensures { result ≡ is_straight_pattern pieces.now }
+{
+    let mut rest = pieces;
+    while let Some((piece, others)) = rest.split_first() {
+        if !is_power(piece) {
+            return is_straight_call(piece, others);
+        }
+        rest = others;
+    }
+    true
+}
+
+fn is_straight_call(piece: &PatternPiece, others: &[PatternPiece]) -> bool
+    ensures { result ≡ is_straight_call_by piece.now others.now }
+{
+    match piece {
+        PatternPiece::Function(_) => are_single(others),
+        _ => false,
+    }
+}
+
+/// Whether these pieces, behind a function's name, are arguments of one candidate each and their end.
+fn are_single(pieces: &[PatternPiece]) -> bool
+    ensures { result ≡ are_single_pieces pieces.now }
+{
+    let mut rest = pieces;
+    while let Some((piece, others)) = rest.split_first() {
+        if !is_single(piece) {
+            return ends_straight(piece, others);
+        }
+        rest = others;
+    }
+    false
+}
+
+fn ends_straight(piece: &PatternPiece, others: &[PatternPiece]) -> bool
+    ensures { result ≡ ends_straight_by piece.now others.now }
+{
+    match piece {
+        PatternPiece::EndOfArguments => others.is_empty(),
+        _ => false,
+    }
+}
+
+/// Whether such a pattern is found, and what it takes and binds then.
 pub fn straight_match(
     takes: &mut Uses,
     bindings: &mut Bindings,
     outermost: &Ground,
     pieces: &[PatternPiece],
-) -> Result<Option<bool>, AllocError>
+) -> Result<bool, AllocError>
     requires lawful { IsTerm outermost.now.term.now }
+    requires straight { is_straight_pattern pieces.now ≡ true }
     requires untaken { takes.old ≡ [] }
     requires unbound { bindings.old ≡ [] }
-    ensures { IfOk result (λ o. IfSome o (λ b. Finds b
-        (first_found (reach (table_of outermost.now.fixed.now) pieces.now (start (ground_of outermost.now)))) takes.new bindings.new)) }
+    ensures { IfOk result (λ b. Finds b
+        (first_found (reach (table_of outermost.now.fixed.now) pieces.now (start (ground_of outermost.now)))) takes.new bindings.new) }
 {
     let host = Host::outer(outermost.term, outermost.cuts, outermost.is_exact);
     let powers = take_powers(takes, bindings, &host, pieces)?;
     let Some(rest) = powers else {
-        return Ok(Some(false));
+        return Ok(false);
     };
     let Some((piece, behind)) = rest.split_first() else {
-        return Ok(Some(true));
+        return Ok(true);
     };
     match piece {
         PatternPiece::Function(name) => call_match(takes, bindings, outermost, name, behind),
-        _ => Ok(None),
+        _ => Ok(false),
     }
 }
 
@@ -59,8 +105,10 @@ fn take_powers<'a>(
     host: &Host,
     pieces: &'a [PatternPiece],
 ) -> Result<Option<&'a [PatternPiece]>, AllocError>
-    requires { IsTerm host.now.term }
-    ensures { (table : List (Option (List Piece))) → IfOk result (λ o. IsBehind (option_map (λ rest. rest.now) o)
+    requires lawful { IsTerm host.now.term }
+    requires straight { is_straight_pattern pieces.now ≡ true }
+    ensures call { IfOk result (λ o. IfSome o (λ rest. is_call_alone rest.now ≡ true)) }
+    ensures behind { (table : List (Option (List Piece))) → IfOk result (λ o. IsBehind (option_map (λ rest. rest.now) o)
         (first_found (reach table pieces.now (state (factors host.now takes.old ∷ []) bindings.old))) table host.now takes.new bindings.new) }
 {
     let mut rest = pieces;
@@ -156,9 +204,10 @@ fn call_match(
     outermost: &Ground,
     name: &Name,
     behind: &[PatternPiece],
-) -> Result<Option<bool>, AllocError>
-    ensures { IfOk result (λ o. IfSome o (λ b. Finds b (first_found (reach (table_of outermost.now.fixed.now)
-        (of_pattern.Function name.now ∷ behind.now) (state (factors (ground_of outermost.now) takes.old ∷ []) bindings.old))) takes.new bindings.new)) }
+) -> Result<bool, AllocError>
+    requires { are_single_pieces behind.now ≡ true }
+    ensures { IfOk result (λ b. Finds b (first_found (reach (table_of outermost.now.fixed.now)
+        (of_pattern.Function name.now ∷ behind.now) (state (factors (ground_of outermost.now) takes.old ∷ []) bindings.old))) takes.new bindings.new) }
 {
     let functions = outermost.term.functions();
     let found = first_call(
@@ -169,17 +218,14 @@ fn call_match(
         name,
         behind,
     )?;
-    let Some(first) = found else {
-        return Ok(None);
-    };
-    let Some(one) = first else {
-        return Ok(Some(false));
+    let Some(one) = found else {
+        return Ok(false);
     };
     takes.push(one)?;
-    Ok(Some(true))
+    Ok(true)
 }
 
-/// The first function that is taken so, none where there is none; and none of that where its arguments are to be searched.
+/// The first function that is taken so.
 fn first_call(
     bindings: &mut Bindings,
     takes: &[Use],
@@ -187,83 +233,82 @@ fn first_call(
     fixed: &[Option<Call>],
     name: &Name,
     behind: &[PatternPiece],
-) -> Result<Option<Option<Use>>, AllocError>
-    ensures { (h : Host) → functions.now ≡ h.term.others.functions → IfOk result (λ o. IfSome o (λ one. FindsOne one
+) -> Result<Option<Use>, AllocError>
+    requires { are_single_pieces behind.now ≡ true }
+    ensures { (h : Host) → functions.now ≡ h.term.others.functions → IfOk result (λ one. FindsOne one
         (first_found (reach (table_of fixed.now) (of_pattern.Function name.now ∷ behind.now) (state (factors h takes.now ∷ []) bindings.old)))
-        takes.now bindings.new)) }
+        takes.now bindings.new) }
 {
     let count = bindings.count();
     let mut place: usize = 0;
     for call in functions {
         let number = short(place)?;
         let one = Use::Function(number);
+        place += 1;
         if clashes(takes, &one) {
-            return Ok(None);
+            continue;
         }
-        let told = take_call(bindings, fixed, name, behind, call)?;
-        let Some(is_taken) = told else {
-            return Ok(None);
-        };
-        if is_taken {
-            return Ok(Some(Some(one)));
+        if take_call(bindings, fixed, name, behind, call)? {
+            return Ok(Some(one));
         }
         bindings.cut_to(count);
-        place += 1;
     }
-    Ok(Some(None))
+    Ok(None)
 }
 
-/// Whether a function is taken, name and arguments; none where they are to be searched.
+/// Whether a function is taken, name and arguments.
 fn take_call(
     bindings: &mut Bindings,
     fixed: &[Option<Call>],
     name: &Name,
     behind: &[PatternPiece],
     call: &Call,
-) -> Result<Option<bool>, AllocError>
-    ensures told { (h : Host) (us : List Use) → IfOk result (λ o. IfSome o (λ b. Finds b
+) -> Result<bool, AllocError>
+    requires { are_single_pieces behind.now ≡ true }
+    ensures told { (h : Host) (us : List Use) → IfOk result (λ b. Finds b
         (first_found (flat_map (reach (table_of fixed.now) behind.now) (option_to_list
         (asking_too (arguments (arguments_of call.now.pieces) ∷ factors h us ∷ []) bindings.old (asked_function name.now call.now.function)))))
-        us bindings.new)) }
+        us bindings.new) }
     ensures kept { take (length bindings.old) bindings.new ≡ bindings.old }
 {
     if !ask_function(bindings, name, call.function())? {
-        return Ok(Some(false));
+        return Ok(false);
     }
     lawful_arguments(call);
     take_arguments(bindings, fixed, behind, call.pieces())
 }
 
-/// Whether these arguments are taken, all of them; none where they are to be searched.
+/// Whether these arguments are taken, all of them.
 fn take_arguments(
     bindings: &mut Bindings,
     fixed: &[Option<Call>],
     asked: &[PatternPiece],
     given: &[Piece],
-) -> Result<Option<bool>, AllocError>
-    requires { AreArguments given.now }
-    ensures told { (h : Host) (us : List Use) → IfOk result (λ o. IfSome o (λ b. Finds b
+) -> Result<bool, AllocError>
+    requires lawful { AreArguments given.now }
+    requires single { are_single_pieces asked.now ≡ true }
+    ensures told { (h : Host) (us : List Use) → IfOk result (λ b. Finds b
         (first_found (reach (table_of fixed.now) asked.now (state (arguments (arguments_of given.now) ∷ factors h us ∷ []) bindings.old)))
-        us bindings.new)) }
+        us bindings.new) }
     ensures kept { take (length bindings.old) bindings.new ≡ bindings.old }
 {
     let mut left = given;
     let mut rest = asked;
     while let Some((piece, others)) = rest.split_first() {
         if !is_single(piece) {
-            return Ok(at_end(piece, others, left));
+            return Ok(left.is_empty());
         }
         let first = first_argument(left);
         let Some((part, behind)) = first else {
-            return Ok(Some(false));
+            return Ok(false);
         };
         if !take_argument(bindings, fixed, piece, part)? {
-            return Ok(Some(false));
+            return Ok(false);
         }
         left = behind;
         rest = others;
     }
-    Ok(None)
+    Ok(false)
 }
 
 /// Whether a piece takes one argument, in one way at most.
@@ -275,27 +320,6 @@ fn is_single(piece: &PatternPiece) -> bool
         PatternPiece::Any(_, _) => true,
         _ => false,
     }
-}
-
-/// Whether the arguments end where they are to, at the last piece; none where this is another piece.
-fn at_end(piece: &PatternPiece, others: &[PatternPiece], left: &[Piece]) -> Option<bool>
-    ensures { (table : List (Option (List Piece))) (h : Host) (us : List Use) (bs : List Binding) → IfSome result (λ b. Finds b
-        (first_found (reach table (piece.now ∷ others.now) (state (arguments (arguments_of left.now) ∷ factors h us ∷ []) bs))) us bs) }
-{
-    match piece {
-        PatternPiece::EndOfArguments => all_taken(others, left),
-        _ => None,
-    }
-}
-
-fn all_taken(others: &[PatternPiece], left: &[Piece]) -> Option<bool>
-    ensures { (table : List (Option (List Piece))) (h : Host) (us : List Use) (bs : List Binding) → IfSome result (λ b. Finds b
-        (first_found (reach table (of_pattern.EndOfArguments ∷ others.now) (state (arguments (arguments_of left.now) ∷ factors h us ∷ []) bs))) us bs) }
-{
-    if others.is_empty() {
-        return Some(left.is_empty());
-    }
-    None
 }
 
 /// Whether such a piece takes this argument.

@@ -1,7 +1,7 @@
 //! Whether a term in an argument is taken whole.
 ghost use Rattle.std.specs.Prelude.{◌≡◌, not, ◌+◌, ◌-◌, min, IsTrue};
 ghost use Rattle.form_term.specs.Term.{is_nil};
-ghost use Rattle.form_match.specs.Left.{dot_taken as dot_taken_by, dots_left, is_one, left_of as left_of_term, powers_left, symbol_taken as symbol_taken_by, taken, takes_component, takes_delta, takes_function, untaken, word_left};
+ghost use Rattle.form_match.specs.Left.{dot_taken as dot_taken_by, dots_left, is_one, left_of as left_of_term, powers_left, symbol_taken as symbol_taken_by, taken, takes_component, takes_delta, takes_function, untaken};
 ghost use Rattle.form_match.specs.Matching.{are_apart};
 ghost use Rattle.form_match.specs.Whole.{differ, length_left, shorter};
 

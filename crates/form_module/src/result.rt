@@ -10,8 +10,7 @@ ghost use Rattle.form_module.specs.Module.{collected_list, made_of, result_of as
 use crate::inputs::{Batch, BatchEnd, Inputs, next_batch};
 use crate::result_error::ResultError;
 use form_base::{Cause, Settings};
-use form_collect::Collector;
-use form_expand::Terms;
+use form_collect::{Collector, Terms};
 use form_flow::{CompiledModule, Outputs};
 use form_term::Monomial;
 use std::alloc::Global;
@@ -27,20 +26,16 @@ pub fn result_of(
         Gives (λ terms. terms) result (result_meant statements.now.limit settings.now.max_terms pss (inputs_left inputs.entry)) }
 {
     let terms = collect(alloc, statements, inputs)?;
-    if terms.len() as u64 > settings.max_terms {
+    if terms.as_slice().len() as u64 > settings.max_terms {
         return Err(ResultError::Refused(Cause::TermLimit));
     }
-    Ok(Terms::from_vec(terms))
+    Ok(terms)
 }
 
 /// What the statements make of inputs comes to, where all come to their end.
-fn collect(
-    alloc: Global,
-    statements: &CompiledModule,
-    inputs: Inputs,
-) -> Result<Vec<Monomial>, ResultError>
+fn collect(alloc: Global, statements: &CompiledModule, inputs: Inputs) -> Result<Terms, ResultError>
     ensures { (pss : List (List Part)) → AreParts statements.now.groups pss →
-        Gives (λ terms. terms.items) result (collected_list (through (made_of statements.now.limit pss) (inputs_left inputs.entry))) }
+        Gives (λ terms. terms) result (collected_list (through (made_of statements.now.limit pss) (inputs_left inputs.entry))) }
 {
     if statements.is_empty() {
         return collect_inputs(alloc, inputs);
@@ -49,8 +44,8 @@ fn collect(
 }
 
 /// What inputs come to as they are.
-fn collect_inputs(alloc: Global, mut inputs: Inputs) -> Result<Vec<Monomial>, ResultError>
-    ensures { Gives (λ terms. terms.items) result (collected_list (inputs_left inputs.entry)) }
+fn collect_inputs(alloc: Global, mut inputs: Inputs) -> Result<Terms, ResultError>
+    ensures { Gives (λ terms. terms) result (collected_list (inputs_left inputs.entry)) }
 {
     let mut collector = Collector::new(alloc);
     for _made in 0..u64::MAX {
@@ -68,9 +63,9 @@ fn collect_outputs(
     alloc: Global,
     statements: &CompiledModule,
     mut inputs: Inputs,
-) -> Result<Vec<Monomial>, ResultError>
+) -> Result<Terms, ResultError>
     ensures { (pss : List (List Part)) → is_nil statements.now.groups ≡ false → AreParts statements.now.groups pss →
-        Gives (λ terms. terms.items) result (collected_list (through (made_of statements.now.limit pss) (inputs_left inputs.entry))) }
+        Gives (λ terms. terms) result (collected_list (through (made_of statements.now.limit pss) (inputs_left inputs.entry))) }
 {
     let mut collector = Collector::new(alloc);
     for _made in 0..u64::MAX {

@@ -147,6 +147,7 @@ taken_as Only table pattern t cuts = taken_once (untouched t cuts) (first_of tab
 taken_as Multi table pattern t cuts = option_map (multiplied (untouched t cuts)) (first_of table pattern t cuts false)
 taken_as Many table pattern t cuts = taken_many table pattern (taken_once (untouched t cuts) (first_of table pattern t cuts false))
 
--- What a pattern takes out of a term, whose word has been cut at these places; none where it takes nothing.
+-- What a pattern takes out of a term, whose word has been cut at these places; none where it matches nothing, while a match
+-- that takes nothing is one.
 unfoldable pub take_out : List (Option (List Piece)) → Factors → Option Taking → Term → List ℕ → Option Taken
 take_out table pattern option t cuts = taken_as (option_of option pattern) table pattern t cuts

@@ -1,5 +1,6 @@
-ghost use Rattle.std.specs.Prelude.{◌≡◌, List, ℕ, [], ◌∷◌, IfErr, IfOk, OnOk, IsTrue, IsNone, None, Option, false};
+ghost use Rattle.std.specs.Prelude.{◌≡◌, List, ℕ, [], ◌∷◌, IfErr, IfOk, OnOk, IsTrue, IsNone, None, Option, is_some, false};
 ghost use Rattle.form_ast.specs.Lawful.{AreLawfulModules};
+ghost use Rattle.form_stmts.specs.Begun.{is_front};
 ghost use Rattle.form_stmts.specs.Program.{IsProgram, IsRefusal, IsLexed, Lexed, statement, token as lexed_token, token_of, period, is_semicolon_kind, first_spot as first_spot_of, ends_with_rewrite as ends_with_rewrite_of, may_stand as may_stand_there};
 ghost use Rattle.form_lexer.specs.Reading.{kind_of};
 ghost use Rattle.form_stmts.specs.Line.{PlacedLine};
@@ -111,17 +112,19 @@ impl Reader {
         requires token { is_semicolon_kind (kind_of shape text.now) ≡ false }
         requires none { self.old.right_side ≡ None }
         ensures read { OnOk result (ReadsOn self.old (lexed_token (token_of spot shape text.now) ∷ []) self.new) }
+        ensures begins { OnOk result (is_some self.new.right_side ≡ is_front self.new.tokens.items) }
         ensures refused { IfErr result (λ error. Refuses self.old (lexed_token (token_of spot shape text.now) ∷ []) error) }
     {
         let kind = kind(alloc, shape, text)?;
         self.keep(alloc, Token { kind, spot })
     }
 
-    /// Keeps a token of a statement that is begun, where no right side is.
+    /// Keeps a token of a statement that is begun, where no right side is. Behind the front of a definition one begins.
     fn keep(&mut self, alloc: Global, token: Token) -> Result<(), ProgramError>
         requires token { is_semicolon_kind token.kind ≡ false }
         requires none { self.old.right_side ≡ None }
         ensures read { OnOk result (ReadsOn self.old (lexed_token token ∷ []) self.new) }
+        ensures begins { OnOk result (is_some self.new.right_side ≡ is_front self.new.tokens.items) }
         ensures refused { IfErr result (λ error. Refuses self.old (lexed_token token ∷ []) error) }
     {
         self.tokens.push(token)?;

@@ -8,4 +8,4 @@ call f ps = record { function = f; pieces = ps }
 
 -- a size or a depth as a function keeps it
 abbrev pub kept : ℕ → ℕ
-kept n = min n 65535
+kept n = min n 255

@@ -7,6 +7,7 @@ pub mod Factors
 pub mod FedPieces
 pub mod Feeding
 pub mod Monomial
+pub mod Packing
 pub mod Pieces
 pub mod PowerLaws
 pub mod Reading

@@ -4,40 +4,39 @@ ghost use Rattle.form_term.specs.Pieces.{size_of_pieces, deepest};
 ghost use Rattle.form_term.specs.Calls.{kept};
 
 use crate::Piece;
+use crate::packed::Packed;
 use form_base::Id;
 use std::alloc::{AllocError, Global};
 use std::cmp::Ordering;
 use std::hash::{Hash, Hasher};
 use std::marker::Model;
-use std::sync::ArcSlice;
 
-/// A function with its arguments, kept as their pieces. Copies share the arguments, and take no memory.
+/// A function with its arguments, kept as their pieces. Copies share the arguments, and take no memory: up to nine
+/// pieces, as most functions have, and the count of their owners are one block, more pieces and the count are two.
 #[derive(Debug, Drop)]
 pub struct Call {
-    function: Id,
-    /// How many factors it counts as, and how deep it is, each at most `MOST`.
-    size: u16,
-    depth: u16,
-    pieces: ArcSlice<Piece>,
+    packed: Packed,
 }
 
 /// The largest size and depth that a function keeps: where they may be larger, its pieces are counted again.
-const MOST: u16 = u16::MAX;
+const MOST: u8 = u8::MAX;
+
+const _: () = prove!(size_of::<Call>() == 16);
 
 impl Model for Call {
     ghost use Rattle.form_term.specs.Term as terms;
     ghost use Rattle.form_term.specs.Calls.{call, kept};
     ghost use Rattle.form_term.specs.Pieces.{deepest};
-    ghost use Rattle.std.specs.Arc.{arc_slice_items};
+    ghost use Rattle.form_term.specs.Packing.{function_in, size_in, depth_in, pieces_in};
     ghost use Rattle.std.specs.Prelude.{◌≡◌};
 
     ghost Value = { terms.Call };
 
-    ghost view = { λ c. call c.function (arc_slice_items c.pieces) };
+    ghost view = { λ c. call (function_in c.packed) (pieces_in c.packed) };
 
-    ghost invariant = { λ c. terms.IsCall (call c.function (arc_slice_items c.pieces))
-        × (c.size ≡ kept (terms.size_of_call (call c.function (arc_slice_items c.pieces))))
-        × (c.depth ≡ kept (deepest 0 (arc_slice_items c.pieces))) };
+    ghost invariant = { λ c. terms.IsCall (call (function_in c.packed) (pieces_in c.packed))
+        × (size_in c.packed ≡ kept (terms.size_of_call (call (function_in c.packed) (pieces_in c.packed))))
+        × (depth_in c.packed ≡ kept (deepest 0 (pieces_in c.packed))) };
 }
 
 impl Call {
@@ -51,17 +50,14 @@ impl Call {
         let size = saturated(size_with(&pieces));
         let depth = saturated(depth_of(&pieces));
         Ok(Call {
-            function,
-            size,
-            depth,
-            pieces: ArcSlice::from_vec(pieces)?,
+            packed: Packed::from_vec(size, depth, function, pieces)?,
         })
     }
 
     pub fn function(&self) -> Id
         ensures { result ≡ self.now.function }
     {
-        self.function
+        self.packed.function()
     }
 
     /// The pieces of the arguments, from the left.
@@ -69,7 +65,7 @@ impl Call {
         ensures pieces { result.now ≡ self.now.pieces }
         ensures lawful { IsCall self.now }
     {
-        self.pieces.as_slice()
+        self.packed.as_slice()
     }
 
     /// How many factors it counts as: one for itself, one for each argument, and for each term in an argument one and
@@ -77,8 +73,9 @@ impl Call {
     pub fn size(&self) -> usize
         ensures { result ≡ size_of_call self.now }
     {
-        if self.size < MOST {
-            return usize::from(self.size);
+        let size = self.packed.size();
+        if size < MOST {
+            return usize::from(size);
         }
         size_with(self.pieces())
     }
@@ -87,8 +84,9 @@ impl Call {
     pub fn depth(&self) -> usize
         ensures { result ≡ deepest 0 self.now.pieces }
     {
-        if self.depth < MOST {
-            return usize::from(self.depth);
+        let depth = self.packed.depth();
+        if depth < MOST {
+            return usize::from(depth);
         }
         depth_of(self.pieces())
     }
@@ -119,11 +117,11 @@ fn depth_of(pieces: &[Piece]) -> usize
 }
 
 /// A size or a depth as it is kept.
-fn saturated(number: usize) -> u16
+fn saturated(number: usize) -> u8
     ensures { result ≡ kept number }
 {
     if number < usize::from(MOST) {
-        number as u16
+        number as u8
     } else {
         MOST
     }
@@ -136,10 +134,7 @@ impl Clone for Call {
 
     fn clone(&self) -> Result<Call, AllocError> {
         Ok(Call {
-            function: self.function,
-            size: self.size,
-            depth: self.depth,
-            pieces: self.pieces.clone()?,
+            packed: self.packed.copied()?,
         })
     }
 }
@@ -197,7 +192,7 @@ impl Ord for Call {
     ghost matches_eq = { λ c d. refl };
 
     fn cmp(&self, other: &Call) -> Ordering {
-        match self.function.cmp(&other.function) {
+        match self.function().cmp(&other.function()) {
             Ordering::Equal => self.pieces().cmp(&other.pieces()),
             ordering => ordering,
         }
@@ -214,7 +209,7 @@ impl Hash for Call {
     ghost respects_eq = { calls_alike (λ c. ⟦<Id as Hash>⟧.hash_input c.function ++ fed.slice ⟦<Piece as Hash>⟧.hash_input c.pieces) };
 
     fn hash<H: Hasher>(&self, state: &mut H) {
-        self.function.hash(state);
+        self.function().hash(state);
         self.pieces().hash(state);
     }
 }

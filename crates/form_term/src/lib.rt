@@ -9,6 +9,7 @@ pub mod laws;
 mod monomial;
 mod order;
 mod others;
+mod packed;
 mod piece;
 mod power;
 mod reading;

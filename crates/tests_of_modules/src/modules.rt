@@ -7,7 +7,8 @@ ghost use Rattle.form_module.specs.Module.{HasTree, HaveTrees};
 
 use form_base::{Id, Settings};
 use form_check::{Checked, IdList, Module, Rewriting, Selection};
-use form_expand::{Stored, Terms};
+use form_collect::Terms;
+use form_expand::Stored;
 use form_frac::Frac;
 use form_module::{ModuleError, printed, run_module};
 use form_term::{Monomial, Term};

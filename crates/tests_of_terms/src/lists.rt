@@ -1,9 +1,10 @@
 //! Lists written out by hand, and limits.
 
 use form_base::{Cause, Id};
+use form_collect::Terms;
 use form_expand::{
-    ExpandError, Expansion, Part, Row, Standing, Stored, Terms, Timed, argument_pieces,
-    expand_tree, times_lone_function, whole_list,
+    ExpandError, Expansion, Paired, Part, Row, Standing, Stored, argument_pieces, expand_tree,
+    times_list, whole_list,
 };
 use form_frac::Frac;
 use form_match::{Bindings, Wildcard};
@@ -477,21 +478,21 @@ fn a_bound_number_is_added(rt: HostRuntime) -> Result<(), Fail> {
     Ok(())
 }
 
-/// The size of a symbol times these pieces, where they are multiplied at once.
+/// The size of a symbol times these pieces, where that is known at once.
 fn size_at_once(alloc: Global, pieces: &[Piece], limit: u64) -> Result<usize, AllocError> {
     let names = three(alloc)?;
     let left = Monomial {
         coefficient: Frac::one(),
         term: Term::symbol(alloc, Id::new(0), 1)?,
     };
-    match times_lone_function(alloc, left, pieces, limit, &names)? {
-        Timed::Made(made) => Ok(made.term.size()),
-        Timed::Same(_) => Ok(0),
+    match times_list(alloc, limit, pieces, left, &names)? {
+        Paired::One(made) => Ok(made.term.size()),
+        _ => Ok(0),
     }
 }
 
 #[test]
-fn a_lone_function_is_multiplied_at_once(rt: HostRuntime) -> Result<(), Fail> {
+fn a_lone_term_is_multiplied_at_once(rt: HostRuntime) -> Result<(), Fail> {
     let alloc = rt.alloc();
     let mut pieces = of_next(alloc, 1)?;
     assert_eq!(rt; size_at_once(alloc, &pieces, 9)?, 4);
@@ -499,6 +500,6 @@ fn a_lone_function_is_multiplied_at_once(rt: HostRuntime) -> Result<(), Fail> {
     pieces.push(symbol(Link::Plus, 1, 1))?;
     assert_eq!(rt; size_at_once(alloc, &pieces, 9)?, 0);
     let square = of_next(alloc, 2)?;
-    assert_eq!(rt; size_at_once(alloc, &square, 9)?, 0);
+    assert_eq!(rt; size_at_once(alloc, &square, 9)?, 7);
     Ok(())
 }

@@ -147,7 +147,7 @@ literal_arguments::read_one-returns-in-None t c =
 
 pub literal_arguments::few_collected-returns : goal.literal_arguments::few_collected-returns
 literal_arguments::few_collected-returns t c =
-    collected_kept c.in_ok-collected.collected c.in-Some-2.terms.items (list_of_pieces c.args.limit c.args.names.now c.args.pieces.now) (rw c.in-Some-2.is at c.in_ok-terms.ensures) c.collected_lists.ensures.rising c.collected_lists.ensures.present c.in_ok-collected.ensures
+    collected_kept c.in_ok-collected.collected c.in-Some-2.terms.items (list_of_pieces c.args.limit c.args.names.now c.args.pieces.now) (rw c.in-Some-2.is at c.in_ok-terms.ensures) c.collected_lists.ensures.rising c.collected_lists.ensures.present c.in_ok-collected.ensures.some
 
 pub literal_arguments::read_sum-split_at-requires : goal.literal_arguments::read_sum-split_at-requires
 literal_arguments::read_sum-split_at-requires t c =

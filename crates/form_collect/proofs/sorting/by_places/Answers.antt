@@ -9,7 +9,7 @@ loop-keyed-init c = rw c.in_ok-list.ensures.items (none_taken c.args.terms.items
 pub loop-keyed-preserved : goal.loop-keyed-preserved
 loop-keyed-preserved c =
     let l = c.loop-keyed in
-    let none : Keyed = record { key = 0; place = 0 } in
+    let none : Keyed = record { key = 0; tie = 0; place = 0 } in
     rw (c.in_ok-push.ensures.items, c.take_at.ensures.left, c.take_at.ensures.taken)
     (taken_next c.args.terms.items c.args.keys.now l.terms.items l.list.items l.keyed-index (get_or c.args.keys.now l.keyed-index none) c.loop-keyed-test.true none refl l.invariant)
 

@@ -1,15 +1,16 @@
-use Rattle.std.proofs.Common.{Err, ap}
+use Rattle.std.proofs.Common.{Err, Some, ap, sym, ◌∙◌}
 use Rattle.form_expand.specs.Singles.{argument_of, of_collected}
 use Rattle.form_expand.proofs.function.terms_of.Goals as goal
 
 pub returns-in-Ok : goal.returns-in-Ok
 unfolding argument_of
 returns-in-Ok c = λ list h.
-    let all = c.in-Ok.ensures.ok list h in
+    let terms = c.into_vec.result.items in
+    let all = c.in-Ok.ensures.ok list h ∙ ap Some (sym c.into_vec.ensures) in
     record {
       argument = ap of_collected all;
-      rising = c.collected_lists.ensures.rising list c.in-Ok.terms.items all;
-      present = c.collected_lists.ensures.present list c.in-Ok.terms.items all;
+      rising = c.collected_lists.ensures.rising list terms all;
+      present = c.collected_lists.ensures.present list terms all;
     }
 
 pub returns-in-Err-Overflow : goal.returns-in-Err-Overflow

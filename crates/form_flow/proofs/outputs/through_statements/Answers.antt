@@ -39,13 +39,13 @@ loop-group-smaller c =
     let within = slice_get_within c.args.compiled.now.groups c.loop-group.behind (rewritings_of c.in-Some.group.now) (sym c.in-Some.ensures.rewritings) in
     omega (arith, within)
 
-pub returns-in-Put : goal.returns-in-Put
-returns-in-Put c = λ pss are.
+pub returns-in-Row : goal.returns-in-Row
+returns-in-Row c = λ pss are.
     let max = c.args.compiled.now.limit in
     let m = c.loop-group.item in
     let z = zip_next ArePartsOf c.args.compiled.now.groups pss c.loop-group.behind (rewritings_of c.in-Some.group.now) are (sym c.in-Some.ensures.rewritings) in
     let h = subst (λ (n : ℕ). IsApplied m (rewritten n z.0 m) c.in_ok-next.field-0) c.limit-max.ensures (c.in_ok-next.ensures z.0 z.2) in
-    sym (c.loop-group.invariant pss are) ∙ becomes_row max m _ _ z.0 z.1 c.in-Put.row (rw c.in-Put.is at h)
+    sym (c.loop-group.invariant pss are) ∙ becomes_row max m _ _ z.0 z.1 c.in-Row.row (rw c.in-Row.is at h)
 
 pub returns-in-Nothing : goal.returns-in-Nothing
 returns-in-Nothing c = λ pss are.

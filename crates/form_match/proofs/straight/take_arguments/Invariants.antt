@@ -1,15 +1,16 @@
-use Rattle.std.proofs.Common.{◌≡◌, List, [], ◌∷◌, length, take}
+use Rattle.std.proofs.Common.{◌≡◌, true, List, [], ◌∷◌, length, take}
 use Rattle.form_term.specs.Arguments.{arguments_of}
 use Rattle.form_term.specs.Term.{AreArguments}
 use Rattle.form_match.specs.declared.uses.Use.{Use}
 use Rattle.form_match.specs.Attempts.{table_of}
 use Rattle.form_match.specs.Matching.{Host}
 use Rattle.form_match.specs.States.{factors, arguments, state, first_found, reach}
+use Rattle.form_match.specs.Straight.{are_single}
 use Rattle.form_match.proofs.straight.take_arguments.Given as goal
 
 abbrev pub invariant-loop-piece : goal.invariant-loop-piece
 invariant-loop-piece l =
-    AreArguments l.left
+    AreArguments l.left × (are_single l.rest ≡ true)
     × (take (length l.fn.bindings) l.bindings ≡ l.fn.bindings)
     × ((h : Host) (us : List Use) → first_found (reach (table_of l.fixed) l.asked (state (arguments (arguments_of l.given) ∷ factors h us ∷ []) l.fn.bindings))
     ≡ first_found (reach (table_of l.fixed) l.rest (state (arguments (arguments_of l.left) ∷ factors h us ∷ []) l.bindings)))

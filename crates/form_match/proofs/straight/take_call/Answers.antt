@@ -24,4 +24,4 @@ pub returns-clause-kept : goal.returns-clause-kept
 returns-clause-kept c = kept_twice c.args.bindings.now c.ask_function.new.bindings c.take_arguments.new.bindings c.ask_function.ensures.kept c.take_arguments.ensures.kept
 
 pub take_arguments-requires : goal.take_arguments-requires
-take_arguments-requires c = subst AreArguments (sym c.pieces.ensures.pieces) c.lawful_arguments.ensures
+take_arguments-requires c = record { lawful = subst AreArguments (sym c.pieces.ensures.pieces) c.lawful_arguments.ensures; single = c.requires }

@@ -21,7 +21,7 @@ loop-term-preserved c =
 pub returns-clause-ok : goal.returns-clause-ok
 returns-clause-ok c = λ list h.
     let es = c.args.self.sums.entries in
-    let ms = c.in_ok-sorted.field-0.items in
+    let ms = c.in_ok-sorted.field-0 in
     let made = sym c.loop-term.invariant ∙ monomials_made c.loop-term.terms.items c.loop-term.term-iterator c.in-None.ensures.steps.0 in
     let moved : IsPermutation (monomials_of es) ms = rw made c.in_ok-sorted.ensures.moved in
     collected_from_sorted es list ms c.into_iter-term-iterator.ensures.into_iter_gives.4 (totals_from c.args.self list c.if-self.false h) moved c.in_ok-sorted.ensures.rising
