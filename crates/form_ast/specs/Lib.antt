@@ -1,4 +1,5 @@
 pub mod Building
+pub mod Joined
 pub mod Lawful
 pub mod Patterns
 pub mod Syntax

@@ -115,6 +115,8 @@ pub enum Piece {
     Field(Spelled),
 }
 
+const _: () = prove!(size_of::<Piece>() == 48);
+
 /// A right side or a pattern as it is written, flat, so that it is read, walked and dropped without recursion however deep it is: in
 /// a clause the list of its pieces in the order of the text.
 #[derive(Debug, Drop)]

@@ -4,6 +4,7 @@
 mod expr;
 mod index_list;
 pub mod laws;
+mod long_expr;
 mod name_list;
 mod number_list;
 mod setting;
@@ -12,6 +13,7 @@ mod weight;
 
 pub use expr::{Expr, Link, Named, Number, Piece, Power, Restriction, Sign, SignedNumber, Spelled};
 pub use index_list::{Dimension, IndexList, SpelledIndex};
+pub use long_expr::{LongExpr, append};
 pub use name_list::NameList;
 pub use number_list::NumberList;
 pub use setting::Setting;

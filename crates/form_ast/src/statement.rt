@@ -1,6 +1,6 @@
 ghost use Rattle.std.specs.Prelude.{◌≡◌};
 
-use crate::{Dimension, Expr, IndexList, NameList, NumberList, Spelled};
+use crate::{Dimension, Expr, IndexList, LongExpr, NameList, NumberList, Spelled};
 use form_base::{Spot, Taking};
 use std::marker::Model;
 
@@ -46,7 +46,7 @@ pub enum Statement {
     Statistics,
     Drop(NameList),
     Skip(NameList),
-    Local(Spelled, Expr),
+    Local(Spelled, LongExpr),
     Rewrite(Rewrite),
     Print(NameList),
 }

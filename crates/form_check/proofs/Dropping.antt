@@ -1,7 +1,14 @@
 -- What a list of names drops.
-use Rattle.std.proofs.Common.{◌≡◌, ℕ, ◌+◌, ◌<◌, ◌≤◌, Bool, true, false, ◌==◌, ◌&&◌, ◌||◌, not, List, length, get_or, drop, refl, sym, ap, ◌∙◌}
+use Rattle.std.proofs.Common.{◌≡◌, ℕ, ◌+◌, ◌<◌, ◌≤◌, Bool, true, false, ◌==◌, ◌&&◌, ◌||◌, not, List, [], ◌∷◌, ◌++◌, length, get_or, drop, refl, sym, ap, ◌∙◌}
 use Rattle.std.specs.List.{list_any}
 use Rattle.std.proofs.lemmas.List.{drop_all}
+use Rattle.std.proofs.lemmas.List.Folds.{list_any-append}
+use Rattle.form_check.specs.declared.checked.Checked.{Checked}
+use Rattle.form_check.specs.declared.checked.Checked.TheVariants.{Drop}
+use Rattle.form_check.specs.declared.checked.Selection.{Selection}
+use Rattle.form_check.specs.declared.standing.Standing.{Standing}
+use Rattle.form_check.specs.Marks.{AreMarksLawful, AreMarksOf, is_defined_in, stands_in, stays_in}
+use Rattle.form_check.specs.Standing.{is_definition, is_drop, means, defines, drops, stands}
 use Rattle.form_check.proofs.Loops.{rest}
 
 neither : (a b c : Bool) → (a && not (b || c)) ≡ ((a && not b) && not c)
@@ -23,3 +30,20 @@ stays-next all stays after ids i id e within is invariant drops =
 pub stays-end : (all stays : Bool) (ids : List ℕ) (i e : ℕ) → length ids ≤ i → all ≡ (stays && not (list_any (λ id. id == e) (drop i ids))) → stays ≡ all
 stays-end all stays ids i e past invariant =
     sym (invariant ∙ ap (λ left. stays && not (list_any (λ id. id == e) left)) (drop_all i ids past) ∙ and-not-false stays)
+
+or-false : (b : Bool) → (b || false) ≡ b
+or-false true = refl
+or-false false = refl
+
+-- the marks once a statement drops what it means
+pub marks-dropped : (old kept : Standing) (earlier : List (List Checked)) (statements : List Checked) (which : Selection) → AreMarksOf old earlier statements → AreMarksLawful kept
+    → ((e : ℕ) → stands_in kept e ≡ stands_in old e) → ((e : ℕ) → is_defined_in kept e ≡ is_defined_in old e) → ((e : ℕ) → stays_in kept e ≡ (stays_in old e && not (means which e)))
+    → AreMarksOf kept earlier (statements ++ Drop which ∷ [])
+marks-dropped old kept earlier statements which marks lawful same_standing same_defining staying = record {
+  lawful = lawful;
+  standing = λ e. same_standing e ∙ marks.standing e;
+  defining = λ e. same_defining e ∙ marks.defining e ∙ sym (list_any-append (is_definition e) statements (Drop which ∷ []) ∙ or-false (defines statements e));
+  staying = λ e. staying e ∙ ap (λ (b : Bool). b && not (means which e)) (marks.staying e)
+      ∙ sym (neither (stands earlier e) (drops statements e) (means which e))
+      ∙ ap (λ (b : Bool). stands earlier e && not b) (sym (list_any-append (is_drop e) statements (Drop which ∷ []) ∙ ap (λ (b : Bool). drops statements e || b) (or-false (means which e))));
+}

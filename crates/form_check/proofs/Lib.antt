@@ -11,6 +11,7 @@ pub mod KnownNames
 pub mod Lists
 pub mod Loops
 pub mod Misplaced
+pub mod Parting
 pub mod PatternFronts
 pub mod PatternPutting
 pub mod PatternSkips

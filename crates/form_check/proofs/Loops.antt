@@ -20,6 +20,11 @@ pub each-next : {S X : Type 0} (step : S → X → Result S Refusal) (state next
 each-next step state next xs i x all within is invariant goes =
     invariant ∙ ap (each step state) (rest xs i x within is) ∙ ap (λ r. r >>= (λ s. each step s (drop (i + 1) xs))) goes
 
+-- the same of a list that is taken apart from its front
+pub each-first : {S X : Type 0} (step : S → X → Result S Refusal) (state next : S) (x : X) (xs ys : List X) (all : Result S Refusal) → ys ≡ x ∷ xs → all ≡ each step state ys → step state x ≡ Ok next → all ≡ each step next xs
+each-first step state next x xs ys all is invariant goes =
+    invariant ∙ ap (each step state) is ∙ ap (λ r. r >>= (λ s. each step s xs)) goes
+
 pub each-refused : {S X : Type 0} (step : S → X → Result S Refusal) (state : S) (xs : List X) (i : ℕ) (x : X) (all : Result S Refusal) (e : CheckError) → i < length xs → x ≡ get_or xs i x → all ≡ each step state (drop i xs) → IsRefused e (step state x) → IsRefused e all
 each-refused step state xs i x all (Refused cause spot) within is invariant stops =
     invariant ∙ ap (each step state) (rest xs i x within is) ∙ ap (λ r. r >>= (λ s. each step s (drop (i + 1) xs))) stops

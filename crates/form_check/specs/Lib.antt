@@ -2,6 +2,7 @@ pub mod Checker
 pub mod Checking
 pub mod Joining
 pub mod Marks
+pub mod Parting
 pub mod Pattern
 pub mod PatternWalking
 pub mod Program

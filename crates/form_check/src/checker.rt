@@ -18,16 +18,16 @@ use crate::pattern::pattern;
 use crate::right_side::{right_side, right_side_of_pattern};
 use crate::standing::Standing;
 use crate::{CheckError, Checked, Module, Program, Rewriting};
-use form_ast::{Expr, Placed, Rewrite, Spelled, Statement};
+use form_ast::{LongExpr, Placed, Rewrite, Spelled, Statement};
 use form_base::Cause;
 use form_names::{Dimension, Kind, Names};
 use std::alloc::Global;
 use std::mem;
 
 /// Checks a program: its statements are taken in order, and the tokens of each from the left.
-pub fn check(alloc: Global, modules: &[form_ast::Module]) -> Result<Program, CheckError>
-    requires { AreLawfulModules modules.now }
-    ensures checked { Gives (λ p. p) result (program modules.now) }
+pub fn check(alloc: Global, modules: Vec<form_ast::Module>) -> Result<Program, CheckError>
+    requires { AreLawfulModules modules.items }
+    ensures checked { Gives (λ p. p) result (program modules.items) }
     ensures sound { IfOk result IsSound }
 {
     form_ast::laws::one_tree();
@@ -68,15 +68,15 @@ impl Checker {
         }
     }
 
-    fn module(&mut self, alloc: Global, written: &form_ast::Module) -> Result<(), CheckError>
+    fn module(&mut self, alloc: Global, written: form_ast::Module) -> Result<(), CheckError>
         requires consistent { IsConsistent self.old }
-        requires lawful { All (λ placed. IsLawfulStatement placed.statement) written.now }
+        requires lawful { All (λ placed. IsLawfulStatement placed.statement) written }
         requires room { self.old.standing.current + 1 < 2 ^ 64 }
-        ensures checked { Gives (λ _. state_of self.new) result (module_checked (state_of self.old) written.now) }
+        ensures checked { Gives (λ _. state_of self.new) result (module_checked (state_of self.old) written) }
         ensures consistent { OnOk result (IsConsistent self.new) }
         ensures current { OnOk result (self.new.standing.current ≡ self.old.standing.current + 1) }
     {
-        for placed in written.as_slice() {
+        for placed in written.into_vec() {
             self.statement(alloc, placed)?;
         }
         let statements = mem::replace(&mut self.statements, Vec::new(alloc));
@@ -86,31 +86,32 @@ impl Checker {
         Ok(())
     }
 
-    fn statement(&mut self, alloc: Global, placed: &Placed) -> Result<(), CheckError>
+    fn statement(&mut self, alloc: Global, placed: Placed) -> Result<(), CheckError>
         requires consistent { IsConsistent self.old }
-        requires lawful { IsLawfulStatement placed.now.statement }
-        ensures checked { Gives (λ _. state_of self.new) result (checking.statement (state_of self.old) placed.now) }
+        requires lawful { IsLawfulStatement placed.statement }
+        ensures checked { Gives (λ _. state_of self.new) result (checking.statement (state_of self.old) placed) }
         ensures consistent { OnOk result (IsConsistent self.new) }
         ensures current { OnOk result (self.new.standing.current ≡ self.old.standing.current) }
     {
-        let class = class_of(&placed.statement);
+        let Placed { spot, statement } = placed;
+        let class = class_of(&statement);
         if class < self.class {
-            return Err(CheckError::Refused(Cause::StatementOrder, placed.spot));
+            return Err(CheckError::Refused(Cause::StatementOrder, spot));
         }
         self.class = class;
-        match &placed.statement {
+        match statement {
             Statement::Names(declared, list) => {
-                declare_names(alloc, &mut self.names, *declared, list.as_slice())
+                declare_names(alloc, &mut self.names, declared, list.as_slice())
             }
             Statement::Indices(list) => {
                 declare_indices(alloc, &mut self.names, &self.dimension, list.as_slice())
             }
             Statement::Dimension(written) => {
-                self.dimension = dimension(alloc, &self.names, written)?;
+                self.dimension = dimension(alloc, &self.names, &written)?;
                 Ok(())
             }
             Statement::Set(spelled, elements) => {
-                declare_set(alloc, &mut self.names, spelled, elements)
+                declare_set(alloc, &mut self.names, &spelled, &elements)
             }
             Statement::Statistics => Ok(()),
             Statement::Drop(list) => {
@@ -122,8 +123,8 @@ impl Checker {
                 let which = selection_of(alloc, &self.names, list.as_slice())?;
                 self.keep(Checked::Skip(which))
             }
-            Statement::Local(spelled, right) => self.define(alloc, spelled, right),
-            Statement::Rewrite(rewrite) => self.rewrite(alloc, rewrite),
+            Statement::Local(spelled, right) => self.define(alloc, &spelled, right),
+            Statement::Rewrite(rewrite) => self.rewrite(alloc, &rewrite),
             Statement::Print(list) => {
                 let which = selection_of(alloc, &self.names, list.as_slice())?;
                 self.keep(Checked::Print(which))
@@ -132,10 +133,15 @@ impl Checker {
     }
 
     /// A definition.
-    fn define(&mut self, alloc: Global, spelled: &Spelled, right: &Expr) -> Result<(), CheckError>
+    fn define(
+        &mut self,
+        alloc: Global,
+        spelled: &Spelled,
+        right: LongExpr,
+    ) -> Result<(), CheckError>
         requires consistent { IsConsistent self.old }
-        requires lawful { AreLawful right.now }
-        ensures checked { Gives (λ _. state_of self.new) result (definition (state_of self.old) spelled.now right.now) }
+        requires lawful { AreLawful right }
+        ensures checked { Gives (λ _. state_of self.new) result (definition (state_of self.old) spelled.now right) }
         ensures consistent { OnOk result (IsConsistent self.new) }
         ensures current { OnOk result (self.new.standing.current ≡ self.old.standing.current) }
     {
@@ -145,7 +151,7 @@ impl Checker {
         }
         let id = declare(alloc, &mut self.names, spelled, Kind::Expression)?;
         let known = nothing(alloc);
-        let tree = right_side(alloc, &self.names, &self.standing, &known, right.as_slice())?;
+        let tree = right_side(alloc, &self.names, &self.standing, &known, right)?;
         self.standing.define(id)?;
         self.keep(Checked::Local(id, tree))
     }

@@ -5,6 +5,7 @@ pub mod Members
 pub mod Places
 pub mod ShortLists
 pub mod Sorted
+pub mod Standing
 pub mod Stands
 pub mod Sums
 pub mod Ties

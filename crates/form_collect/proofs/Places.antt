@@ -12,7 +12,7 @@ use Rattle.std.proofs.lemmas.Bool.{eqb-false, ne_eqb}
 use Rattle.std.proofs.lemmas.Cmp.{nat_cmp_total, nat_eq_equiv, on_total, then_total}
 use Rattle.std.proofs.lemmas.List.{length-map, length-set, get_or-map, get_or-set_other, drop_more, drop_all}
 use Rattle.std.proofs.lemmas.List.Elements.{All-from_recursion, recursion_from_All}
-use Rattle.std.proofs.lemmas.List.Sorted.{IsPermutation-map, All-permutation}
+use Rattle.std.proofs.lemmas.List.Sorted.{IsPermutation-map, All-permutation, length_permutation}
 use Rattle.std.proofs.lemmas.Map.Keys.{IsDistinct-IsPermutation, IsDistinct-head, IsDistinct-tail}
 use Rattle.std.proofs.lemmas.Option.{slice_get-get_or}
 use Rattle.form_term.specs.Term.{RiseFrom}
@@ -126,6 +126,16 @@ module _ (first : ℕ) (told : Bool) (terms : List Monomial) (keys moved : List 
 
   pub moved_within : All (λ k. k.place < length terms) moved
   moved_within = λ k d below. (all_lawful k d below).within
+
+  pub moved_long : length moved ≡ length terms
+  moved_long = length_permutation keys moved same ∙ ap length made ∙ keys_long 0 terms
+    where
+      keys_long : (place : ℕ) (ms : List Monomial) → length (keys_from first told place ms) ≡ length ms
+      keys_long place [] = refl
+      keys_long place (m ∷ ms) = ap suc (keys_long (suc place) ms)
+
+  pub moved_inside : All (λ k. k.place < length moved) moved
+  moved_inside = λ k d below. let inside = (all_lawful k d below).within in omega (arith, moved_long, inside)
 
   pub moved_apart : IsDistinct same_place moved
   moved_apart = IsDistinct-IsPermutation same_place places_flip keys moved same (subst (λ (ks : List Keyed). IsDistinct same_place ks) (sym made) (keys_apart first told 0 terms))

@@ -1,5 +1,6 @@
--- Keys: numbers made of the exponents of a few symbols. Where they differ, they stand as the terms do.
-use Rattle.std.specs.Prelude.{ℕ, zero, suc, ◌+◌, ◌-◌, ◌*◌, ◌==◌, min, nat_lt, nat_eq, ℤ, pos, negsuc, nat_abs, Bool, true, ◌&&◌, List, [], ◌∷◌, map, fold, length, get_or, if◌then◌else◌}
+-- Keys: numbers made of the exponents of a few symbols. Where those of terms that have no symbol before these differ,
+-- they stand as the terms do.
+use Rattle.std.specs.Prelude.{◌≡◌, ℕ, zero, suc, ◌+◌, ◌-◌, ◌*◌, ◌==◌, min, nat_lt, nat_eq, ℤ, pos, negsuc, nat_abs, Bool, true, ◌&&◌, List, [], ◌∷◌, map, fold, length, get_or, if◌then◌else◌}
 use Rattle.std.specs.List.{list_all, slice_get}
 use Rattle.std.specs.List.Sorted.{IsPermutation, IsSorted}
 use Rattle.std.specs.Option.{option_cmp}
@@ -111,6 +112,11 @@ item_at terms k = get_or terms k.place unit
 -- whether two keys are of one place
 abbrev pub same_place : Keyed → Keyed → Bool
 same_place a b = nat_eq a.place b.place
+
+-- at the place of the first of these keys stands this number, at that of the next key the next number, and so on
+abbrev pub ArePlacedFrom : List ℕ → ℕ → List Keyed → Type 0
+ArePlacedFrom places n [] = Unit {0}
+ArePlacedFrom places n (k ∷ ks) = (get_or places k.place 0 ≡ n) × ArePlacedFrom places (n + 1) ks
 
 -- by the keys, then by the ties, and then by the terms at their places
 abbrev pub keyed_order : List Monomial → Keyed → Keyed → Ordering

@@ -1,5 +1,5 @@
 //! Short lists, collected without a hash table where they have two terms at most.
-ghost use Rattle.std.specs.Prelude.{◌≡◌, [], ◌∷◌, None, Some, Ok, IfOk, IfSome};
+ghost use Rattle.std.specs.Prelude.{◌≡◌, false, [], ◌∷◌, None, Some, Ok, IfOk, IfSome};
 ghost use Rattle.std.specs.Bool.{OnTrue};
 ghost use Rattle.form_collect.specs.Collecting.{collected};
 ghost use Rattle.form_collect.specs.Short.{AreOrdered, IsExchanged, IsAdded};
@@ -41,7 +41,7 @@ fn is_collected(list: &[Monomial]) -> bool
     }
 }
 
-/// Whether a list has two terms, the second of which comes first.
+/// Whether a list surely has two terms, the second of which comes first.
 fn is_exchanged(list: &[Monomial]) -> bool
     ensures { OnTrue result (IsExchanged list.now) }
 {
@@ -53,7 +53,8 @@ fn is_exchanged(list: &[Monomial]) -> bool
 
 /// Whether two terms stand so to each other, and neither has the coefficient 0.
 fn are_ordered(one: &Monomial, two: &Monomial, ordering: Ordering) -> bool
-    ensures { OnTrue result (AreOrdered one.now two.now ordering) }
+    ensures are { OnTrue result (AreOrdered one.now two.now ordering) }
+    ensures none { result ≡ false → AreOrdered one.now two.now ordering → ⊥ }
 {
     if one.coefficient.is_zero() {
         return false;
@@ -81,7 +82,7 @@ fn exchanged(mut list: Vec<Monomial>) -> Result<Option<Vec<Monomial>>, AllocErro
     Ok(Some(list))
 }
 
-/// The sum of the two coefficients of a list that has one term twice, where it isn't 0.
+/// The sum of the two coefficients of a list that surely has one term twice, where it isn't 0.
 fn added(list: &[Monomial]) -> Option<Frac>
     ensures { IfSome result (IsAdded list.now) }
 {
@@ -91,7 +92,7 @@ fn added(list: &[Monomial]) -> Option<Frac>
     }
 }
 
-/// The sum of two coefficients of one term, where it isn't 0.
+/// The sum of two coefficients of what surely is one term, where it isn't 0.
 fn sum_of(one: &Monomial, two: &Monomial) -> Option<Frac>
     ensures { IfSome result (IsAdded (one.now ∷ two.now ∷ [])) }
 {

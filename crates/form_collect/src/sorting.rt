@@ -5,7 +5,7 @@ ghost use Rattle.std.specs.Option.{option_cmp};
 ghost use Rattle.std.specs.List.Sorted.{IsPermutation, IsSorted};
 ghost use Rattle.form_term.specs.Monomial.{unit};
 ghost use Rattle.form_term.specs.Term.{RiseFrom, exponent_in, imaginary_exponent};
-ghost use Rattle.form_collect.specs.Keys.{AreSorted, arguments_digit, call_tie, digit, first_of, first_symbol, has_none_between, is_near, is_told, is_whole, item_at, key_of, keyed_order, keys_from, number_digit, piece_digit, same_place, sum_digit, term_order, tie_of};
+ghost use Rattle.form_collect.specs.Keys.{AreSorted, arguments_digit, call_tie, digit, first_of, first_symbol, has_none_between, is_near, is_told, is_whole, item_at, key_of, keyed_order, keys_from, number_digit, piece_digit, same_place, ArePlacedFrom, sum_digit, term_order, tie_of};
 
 use crate::Terms;
 use form_term::{Call, Monomial, Piece, Power, Term, compare};
@@ -349,7 +349,7 @@ fn digit_of_piece(piece: &Piece) -> u32
         Piece::EndOfSum => 0,
         Piece::Negative(_) => 0,
         Piece::NegativeDot(_) => 0,
-        Piece::EndOfTerm(coefficient) => 1 + digit_of_number(coefficient.numerator),
+        Piece::EndOfTerm(coefficient) => 1 + digit_of_number(coefficient.numerator()),
         _ => 524_289,
     }
 }
@@ -394,16 +394,26 @@ fn take_at(alloc: Global, terms: &mut Vec<Monomial>, keyed: Keyed) -> Monomial
 
 /// The places that terms have among these, in the order of the places that the keys tell.
 fn places_in(alloc: Global, keys: &[Keyed]) -> Result<Vec<u32>, AllocError>
-    ensures { IfOk result (λ places. length places.items ≡ length keys.now) }
+    requires short { length keys.now ≤ 4000000000 }
+    requires within { All (λ k. k.place < length keys.now) keys.now }
+    requires apart { IsDistinct same_place keys.now }
+    ensures long { IfOk result (λ places. length places.items ≡ length keys.now) }
+    ensures stand { IfOk result (λ places. ArePlacedFrom places.items 0 keys.now) }
 {
     let mut places = Vec::with_capacity(alloc, keys.len())?;
     places.resize(keys.len(), 0)?;
     let mut stands: u32 = 0;
     for keyed in keys {
-        if let Some(place) = places.get_mut(keyed.place as usize) {
-            *place = stands;
-        }
-        stands = stands.wrapping_add(1);
+        stand_at(&mut places, *keyed, stands);
+        stands += 1;
     }
     Ok(places)
+}
+
+/// Puts a number at the place of a key.
+fn stand_at(places: &mut Vec<u32>, keyed: Keyed, stands: u32)
+    requires { keyed.place < length places.old.items }
+    ensures { places.new.items ≡ set places.old.items keyed.place stands }
+{
+    places[keyed.place as usize] = stands;
 }

@@ -103,7 +103,7 @@ fn answer_to_lines(
     let names = expanded.names.as_slice();
     let lines = program_lines(alloc, expanded.lines.as_slice())?;
     match read_program(alloc, lines) {
-        Ok(modules) => answer_to_statements(alloc, settings, names, &modules),
+        Ok(modules) => answer_to_statements(alloc, settings, names, modules),
         Err(ProgramError::BadSyntax(spot)) => refused_in(alloc, names, Cause::BadSyntax, spot),
         Err(ProgramError::Memory) => Err(AllocError),
     }
@@ -126,11 +126,11 @@ fn answer_to_statements(
     alloc: Global,
     settings: Settings,
     names: &[Name],
-    modules: &[Statements],
+    modules: Vec<Statements>,
 ) -> Result<Answer, AllocError>
-    requires { AreLawfulModules modules.now }
+    requires { AreLawfulModules modules.items }
     ensures outcome { IfOk result (λ answer. (outcome : Outcome) →
-        IsAnswerOutcome answer outcome → AreStatements settings names.now modules.now outcome) }
+        IsAnswerOutcome answer outcome → AreStatements settings names.now modules.items outcome) }
     ensures sound { IfOk result IsSoundAnswer }
     ensures of_text { IfOk result IsOfText }
 {

@@ -12,6 +12,7 @@ mod LiteralSums
 mod LoneFunctions
 mod Lones
 pub mod Lookups
+mod Moved
 pub mod NumberLists
 pub mod NumberPowers
 pub mod NumberSums

@@ -16,6 +16,7 @@ pub mod LoneFunctions
 pub mod Lones
 pub mod Meanings
 pub mod Modes
+pub mod Moving
 pub mod Next
 pub mod NumberSums
 pub mod Numbers

@@ -33,6 +33,14 @@ list_of_piece all (pieces.Open link) = None
 list_of_piece all (pieces.Close power) = None
 list_of_piece all (pieces.CloseRaised by) = None
 
+-- the same of `i_` and of what is made of vectors and indices
+abbrev pub list_of_vectors : Meanings → Piece → Option (Listing × ℕ)
+list_of_vectors all (pieces.Imaginary link power) = Some (imaginary_list, power)
+list_of_vectors all (pieces.Dot link p q power) = Some (dot_list (vector_of all p) (vector_of all q) power, 1)
+list_of_vectors all (pieces.Component link c power) = Some (component_list (component_of all c), power)
+list_of_vectors all (pieces.Delta link i j power) = Some (delta_list (index_of all i) (index_of all j), power)
+list_of_vectors all p = None
+
 -- what was found, as lists
 abbrev pub listed_alone : Option (Whole × ℕ) → Option (Listing × ℕ)
 listed_alone None = None

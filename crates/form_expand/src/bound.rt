@@ -56,7 +56,7 @@ fn expression_to<'a>(
     Ok((base_of(alloc, terms, is_over, power < 0)?, size))
 }
 
-/// The number that a wildcard stands for as a factor; none where it isn't one, or is 0.
+/// The number that a wildcard stands for as a factor. None where it isn't one or is 0, and where it gives up, as on a power.
 pub fn bound_number(names: &Standing, symbol: Id, is_over: bool, power: i32) -> Option<Frac>
     ensures { IfSome result (λ number. (definition.wild_list names.now symbol is_over power ≡ (single (number_alone number), 1)) × IsLowest number) }
 {

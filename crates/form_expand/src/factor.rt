@@ -1,4 +1,4 @@
-ghost use Rattle.std.specs.Prelude.{◌≡◌, ◌≤◌, ℕ, suc, true, IfOk, OnOk};
+ghost use Rattle.std.specs.Prelude.{◌≡◌, ◌≤◌, [], ℕ, suc, true, IfOk, OnOk};
 ghost use Rattle.std.specs.Bool.{OnTrue};
 ghost use Rattle.form_term.specs.declared.monomial.Monomial.{Monomial as Item};
 ghost use Rattle.form_expand.specs.Bound.{powered, powered_by, refused_power};
@@ -47,6 +47,7 @@ impl<'a> Factor<'a> {
     ) -> Result<Factor<'a>, AllocError>
         ensures list { IfOk result (λ factor. factor_whole limit factor ≡ powers limit (listing whole.entry) power) }
         ensures once { (t : Item) → listing whole.entry ≡ single t → 1 ≤ limit → IfOk result (λ factor. is_once factor ≡ true) }
+        ensures none { 1 ≤ power → (listing whole.entry).terms ≡ [] → IfOk result (λ factor. is_once factor ≡ true) }
     {
         if power == 0 {
             return Ok(Factor::Once(Walk::new(Whole::single(Monomial::unit(alloc)))));
@@ -67,6 +68,7 @@ impl<'a> Factor<'a> {
         requires { 2 ≤ power }
         ensures list { IfOk result (λ factor. factor_whole limit factor ≡ powers limit (listing whole.entry) power) }
         ensures once { (t : Item) → listing whole.entry ≡ single t → 1 ≤ limit → IfOk result (λ factor. is_once factor ≡ true) }
+        ensures none { (listing whole.entry).terms ≡ [] → IfOk result (λ factor. is_once factor ≡ true) }
     {
         if whole.terms().is_empty() {
             return Ok(Factor::Once(Walk::new(whole)));

@@ -46,8 +46,8 @@ impl Literal {
     }
 }
 
-/// Reads the product that these pieces begin with, where it is a term that is made so. Answers it, and the pieces behind it.
-/// `deeper` counts down with each function.
+/// Reads the product that these pieces begin with, where it is a term that is made so. Answers it, and the pieces behind it;
+/// none where it gives up. `deeper` counts down with each function.
 #[cycle(literal)]
 pub fn read_literal<'a>(
     alloc: Global,
@@ -260,7 +260,7 @@ fn with_call(
     }
 }
 
-/// Whether there is a product, which is neither refused nor 0.
+/// Whether there surely is a product, which is neither refused nor 0.
 fn made(answer: Result<bool, ProductError>) -> Result<bool, AllocError>
     ensures { result ≡ Ok true → answer ≡ Ok true }
 {

@@ -15,8 +15,8 @@ use std::alloc::{AllocError, Global};
 /// How many pieces a sum may have that is read at once, whatever its products are of.
 pub const MOST_PIECES: usize = 64;
 
-/// The terms of the sum of these pieces, where it has products of numbers and symbols alone, at most `most` of them, and
-/// comes to its end.
+/// The terms of the sum of these pieces; none where it gives up, as where it doesn't come to its end, or has more than
+/// `most` products, or others than of numbers and symbols.
 pub fn literal_sum(
     alloc: Global,
     names: &Standing,
@@ -33,7 +33,7 @@ pub fn literal_sum(
     literal_terms(alloc, names, none, pieces, limit, DEEPEST)
 }
 
-/// The list of the sum of these pieces, where each of its products is a term and there are few.
+/// The list of the sum of these pieces, where each of its products surely is a term and there are few.
 pub fn literal_list(
     alloc: Global,
     names: &Standing,
@@ -76,8 +76,8 @@ fn list_behind(
     }
 }
 
-/// These terms and those of the sum of these pieces behind them, where each of its products is a term and it comes to its
-/// end.
+/// These terms and those of the sum of these pieces behind them, where each of its products surely is a term and it comes to
+/// its end.
 #[cycle(literal)]
 pub fn literal_terms(
     alloc: Global,
@@ -104,7 +104,8 @@ pub fn literal_terms(
     Ok(Some(made))
 }
 
-/// How many products the sum of these pieces has, where these are of numbers and symbols alone, and not more than `most`.
+/// Room for the products of the sum of these pieces, not more than `most`; none where it gives up, as where there are more
+/// or a factor is neither a number nor a symbol.
 fn products(pieces: &[Piece], most: usize) -> Option<usize>
     ensures { IfSome result (λ count. count ≤ most) }
 {

@@ -40,7 +40,7 @@ pub fn times_lone_function(
     Ok(Timed::Made(made))
 }
 
-/// The function that these pieces are, where a row may have a term.
+/// The function that these pieces are, where a row may have a term; none where it gives up.
 fn lone_function(
     alloc: Global,
     pieces: &[Piece],

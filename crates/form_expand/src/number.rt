@@ -1,8 +1,9 @@
-ghost use Rattle.std.specs.Prelude.{◌≡◌, ◌≤◌, Some, pos, negsuc, nat_abs, IfOk, IfSome, if◌then◌else◌};
+ghost use Rattle.std.specs.Prelude.{◌≡◌, ◌≤◌, Some, None, pos, negsuc, nat_abs, IfOk, IfSome, if◌then◌else◌};
 ghost use Rattle.std.specs.Option.{ok_or};
-ghost use Rattle.form_frac.specs.Fraction.{make, largest, IsLowest};
+ghost use Rattle.form_frac.specs.Fraction.{make, largest, whole, IsLowest};
 ghost use Rattle.form_frac.specs.declared.frac_error.FracError.TheVariants.{Overflow};
 ghost use Rattle.form_normal.specs.Product.{number_alone as number_alone_of};
+ghost use Rattle.form_term.specs.declared.monomial.Monomial.{Monomial as Item};
 ghost use Rattle.form_expand.specs.Kept.{listing};
 ghost use Rattle.form_expand.specs.Listing.{single};
 ghost use Rattle.form_expand.specs.Numbers.{raised as raised_of, of_coefficient, of_fraction as of_fraction_of, number_list as number_list_of, symbol_list as symbol_list_of};
@@ -34,10 +35,10 @@ pub fn number_list<'a>(alloc: Global, value: u128, power: i32) -> Whole<'a>
     of_fraction(alloc, base, size)
 }
 
-/// The fraction that a whole number to a power is, on a short way that gives up at what is refused, no term, or to the
-/// power 0.
+/// The fraction that a whole number to a power is; none where that is refused or no term.
 pub fn number_alone(value: u128, power: i32) -> Option<Frac>
-    ensures { IfSome result (λ number. (number_list_of value power ≡ single (number_alone_of number)) × IsLowest number) }
+    ensures some { IfSome result (λ number. (number_list_of value power ≡ single (number_alone_of number)) × IsLowest number) }
+    ensures none { result ≡ None → (t : Item) → number_list_of value power ≡ single t → ⊥ }
 {
     if power == 1 {
         number_once(value)
@@ -48,7 +49,8 @@ pub fn number_alone(value: u128, power: i32) -> Option<Frac>
 
 /// The same of the number itself, which nearly every number is.
 fn number_once(value: u128) -> Option<Frac>
-    ensures { IfSome result (λ number. (number_list_of value (pos 1) ≡ single (number_alone_of number)) × IsLowest number) }
+    ensures some { IfSome result (λ number. (number_list_of value (pos 1) ≡ single (number_alone_of number)) × IsLowest number) }
+    ensures none { result ≡ None → (t : Item) → number_list_of value (pos 1) ≡ single t → ⊥ }
 {
     if value == 0 {
         return None;
@@ -62,10 +64,14 @@ fn number_once(value: u128) -> Option<Frac>
 }
 
 fn number_raised(value: u128, power: i32) -> Option<Frac>
-    ensures { IfSome result (λ number. (number_list_of value power ≡ single (number_alone_of number)) × IsLowest number) }
+    ensures some { IfSome result (λ number. (number_list_of value power ≡ single (number_alone_of number)) × IsLowest number) }
+    ensures none { result ≡ None → (t : Item) → number_list_of value power ≡ single t → ⊥ }
 {
     let size = power.unsigned_abs();
-    if size == 0 || value > LARGEST {
+    if size == 0 {
+        return Some(one());
+    }
+    if value > LARGEST {
         return None;
     }
     let base = factor_of(value, power < 0).ok()?;
@@ -75,6 +81,16 @@ fn number_raised(value: u128, power: i32) -> Option<Frac>
     let number = raised(base, size as u128).ok()?;
     let _ = number.numerator();
     Some(number)
+}
+
+/// 1, with what holds of it.
+fn one() -> Frac
+    ensures one { result ≡ whole (pos 1) }
+    ensures lowest { IsLowest result }
+{
+    let one = Frac::one();
+    let _ = one.numerator();
+    one
 }
 
 /// A factor of a number's power: the number, or its inverse.

@@ -30,9 +30,9 @@ impl Adding {
         }
     }
 
-    /// With a further factor; none where it overflows.
+    /// With a further factor; none where that overflows.
     fn further(self, link: Link, number: Frac) -> Option<Adding>
-        ensures { IfSome result (λ new. further_sum self link number ≡ Some new) }
+        ensures { result ≡ further_sum self link number }
     {
         match link {
             Link::Times => self.times(number),
@@ -42,11 +42,9 @@ impl Adding {
     }
 
     fn times(self, number: Frac) -> Option<Adding>
-        ensures { IfSome result (λ new. times_sum self number ≡ Some new) }
+        ensures { result ≡ times_sum self number }
     {
-        let Ok(product) = self.product.mul(number) else {
-            return None;
-        };
+        let product = self.product.mul(number).ok()?;
         Some(Adding {
             sum: self.sum,
             is_minus: self.is_minus,
@@ -56,7 +54,7 @@ impl Adding {
 
     /// With the first factor of a further product.
     fn then(self, is_minus: bool, number: Frac) -> Option<Adding>
-        ensures { IfSome result (λ new. begun_behind self is_minus number ≡ Some new) }
+        ensures { result ≡ begun_behind self is_minus number }
     {
         let sum = self.total()?;
         Some(Adding {
@@ -85,8 +83,8 @@ fn signed(is_minus: bool, number: Frac) -> Frac
     if is_minus { number.neg() } else { number }
 }
 
-/// The argument that these pieces begin with, behind the one that begins it, where it is a number that isn't 0, and the
-/// pieces behind it.
+/// The argument that these pieces begin with, behind the one that begins it, where it surely is a number that isn't 0, and
+/// the pieces behind it.
 pub fn number_sum<'a>(
     names: &Standing,
     pieces: &'a [Piece],
@@ -119,7 +117,7 @@ pub fn number_sum<'a>(
     None
 }
 
-/// The number that a piece is, and how it stands to what is before it.
+/// The number that a piece surely is, and how it stands to what is before it.
 fn number_at(names: &Standing, piece: &Piece) -> Option<(Link, Frac)>
     ensures { IfSome result (λ read. IsNumberPiece names.now piece.now read.0 read.1) }
 {
@@ -144,7 +142,7 @@ fn linked(link: Link, number: Option<Frac>) -> Option<(Link, Frac)>
     }
 }
 
-/// The number that is ended by this piece, where it isn't 0, and the pieces behind it.
+/// The number that is ended by this piece, where it surely isn't 0, and the pieces behind it.
 fn ended<'a>(adding: Adding, end: &Piece, rest: &'a [Piece]) -> Option<(Frac, &'a [Piece])>
     ensures { IfSome result (λ found. IsEndOfSum adding end.now found.0 × (found.1.now ≡ rest.now)) }
 {

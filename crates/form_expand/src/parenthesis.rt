@@ -1,6 +1,7 @@
 ghost use Rattle.std.specs.Prelude.{◌≡◌, suc, true, IfOk, OnOk};
 ghost use Rattle.form_expand.specs.declared.parenthesis.Mode.TheVariants.{Keeps};
 ghost use Rattle.form_expand.specs.Modes.{is_kept_mode};
+ghost use Rattle.form_expand.specs.Moving.{Shortens};
 ghost use Rattle.form_expand.specs.Left.{times_by};
 ghost use Rattle.form_expand.specs.Listing.{powers};
 ghost use Rattle.form_expand.specs.Next.{Gives, Goes};
@@ -165,6 +166,7 @@ impl<'a> Parenthesis<'a> {
         deeper: u64,
     ) -> Result<Progress, ExpandError>
         ensures next { Goes result (times_by left.now self.old.left) (times_by left.now self.new.left) }
+        ensures shorter { Shortens result self.old.left self.new.left }
         ensures whole { OnOk result (self.new.whole ≡ self.old.whole) }
     {
         if self.mode.is_kept() {
@@ -201,7 +203,8 @@ fn walk(
     place: &mut usize,
     left: &Option<Monomial>,
 ) -> Result<Progress, ExpandError>
-    ensures { Goes result (times_by left.now (terms_left place.old terms.now)) (times_by left.now (terms_left place.new terms.now)) }
+    ensures next { Goes result (times_by left.now (terms_left place.old terms.now)) (times_by left.now (terms_left place.new terms.now)) }
+    ensures shorter { Shortens result (terms_left place.old terms.now) (terms_left place.new terms.now) }
 {
     let Some(term) = terms.get(*place) else {
         return Ok(Progress::Done);

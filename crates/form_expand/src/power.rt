@@ -63,7 +63,7 @@ fn term_power<'a>(alloc: Global, term: &Monomial, power: u128) -> Result<Whole<'
     Ok(Whole::single(made))
 }
 
-/// Whether a term has no factors.
+/// Whether a term surely has no factors.
 fn is_one(term: &Term) -> bool
     ensures { OnTrue result (term.now ≡ one) }
 {

@@ -2,7 +2,7 @@ ghost use Rattle.std.specs.Prelude.{◌≡◌, ◌≤◌, ◌<◌, ◌+◌, ◌^
 ghost use Rattle.form_expand.specs.Closings.{closing_at, deep_behind, power_at_end};
 ghost use Rattle.form_expand.specs.Factors.{factor_whole};
 ghost use Rattle.form_expand.specs.Kept.{listing};
-ghost use Rattle.form_expand.specs.Pieces.{list_of_piece, listed_alone};
+ghost use Rattle.form_expand.specs.Pieces.{list_of_piece, list_of_vectors, listed_alone};
 ghost use Rattle.form_expand.specs.Reading.{begins_product};
 ghost use Rattle.form_expand.specs.Meanings.{terms_of};
 ghost use Rattle.form_expand.specs.Readers.{IsRead, IsReadFactor, IsReadFunction, IsReadOn, IsReadParenthesis, is_minus_piece};
@@ -34,8 +34,9 @@ pub fn read_product<'a>(
     limit: u64,
     most: usize,
 ) -> Result<(Summand<'a>, &'a [Piece]), AllocError>
-    ensures { IfOk result (λ read. IsRead limit stored.now pieces.now read.0.is_minus
+    ensures read { IfOk result (λ read. IsRead limit stored.now pieces.now read.0.is_minus
         (map (factor_whole limit) read.0.factors.items) read.1.now) }
+    ensures shorter { 0 < length pieces.now → IfOk result (λ read. length read.1.now < length pieces.now) }
 {
     let mut factors = Vec::new(alloc);
     let Some((first, more)) = pieces.split_first() else {
@@ -118,8 +119,9 @@ fn read_on<'a>(
     most: usize,
     factors: &mut Vec<Factor<'a>>,
 ) -> Result<&'a [Piece], AllocError>
-    ensures { IfOk result (λ rest. IsReadOn limit stored.now pieces.now
+    ensures read { IfOk result (λ rest. IsReadOn limit stored.now pieces.now
         (map (factor_whole limit) factors.old.items) (map (factor_whole limit) factors.new.items) rest.now) }
+    ensures shorter { IfOk result (λ rest. length rest.now ≤ length pieces.now) }
 {
     let mut rest = pieces;
     while let Some((piece, more)) = rest.split_first() {
@@ -193,6 +195,20 @@ fn piece_list<'a>(
             power,
             ..
         } => (stored_list(stored, *expression), *power as u128),
+        _ => return vector_list(alloc, piece, stored),
+    };
+    Ok(Some(found))
+}
+
+/// The same of `i_`, and of what is made of vectors and indices; none of any other piece.
+fn vector_list<'a>(
+    alloc: Global,
+    piece: &Piece,
+    names: &Standing,
+) -> Result<Option<(Whole<'a>, u128)>, AllocError>
+    ensures { IfOk result (λ found. listed_alone found ≡ list_of_vectors names.now piece.now) }
+{
+    let found = match piece {
         Piece::Imaginary { power, .. } => (imaginary_list(alloc)?, *power as u128),
         Piece::Dot {
             left,
@@ -200,7 +216,7 @@ fn piece_list<'a>(
             power,
             ..
         } => {
-            let (left, right) = (stored.vector(*left), stored.vector(*right));
+            let (left, right) = (names.vector(*left), names.vector(*right));
             (dot_list(alloc, left, right, *power)?, 1)
         },
         Piece::Component {
@@ -208,7 +224,7 @@ fn piece_list<'a>(
             power,
             ..
         } => (
-            component_list(alloc, stored.component(*component))?,
+            component_list(alloc, names.component(*component))?,
             *power as u128,
         ),
         Piece::Delta {
@@ -217,7 +233,7 @@ fn piece_list<'a>(
             power,
             ..
         } => {
-            let (first, second) = (stored.index(*first), stored.index(*second));
+            let (first, second) = (names.index(*first), names.index(*second));
             (delta_list(alloc, first, second)?, *power as u128)
         },
         _ => return Ok(None),

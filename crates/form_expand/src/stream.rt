@@ -120,8 +120,10 @@ impl<'a> Stream<'a> {
 
     /// Reads the next product, where the one at hand is done.
     fn read(&mut self, alloc: Global) -> Result<(), AllocError>
-        requires { product_left self.old.limit self.old.product ≡ nothing }
-        ensures { OnOk result (stream_left self.new ≡ stream_left self.old) }
+        requires done { product_left self.old.limit self.old.product ≡ nothing }
+        requires some { 0 < length self.old.rest.now }
+        ensures list { OnOk result (stream_left self.new ≡ stream_left self.old) }
+        ensures shorter { OnOk result (length self.new.rest.now < length self.old.rest.now) }
     {
         let (summand, rest) = read_product(alloc, self.rest, self.stored, self.limit, self.most)?;
         self.is_minus = summand.is_minus;

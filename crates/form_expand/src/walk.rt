@@ -40,7 +40,7 @@ impl<'a> Walk<'a> {
         self.count = 0;
     }
 
-    /// Whether it has no further term, and isn't refused behind the last.
+    /// Whether it surely has no further term, and isn't refused behind the last.
     pub fn is_spent(&self) -> bool
         ensures { OnTrue result ((max : ℕ) → walk_left max self.now ≡ nothing) }
     {

@@ -1,4 +1,5 @@
 pub mod Complete
+pub mod Ended
 pub mod Lasts
 pub mod Parts
 pub mod Places

@@ -1,5 +1,5 @@
 -- A piece as it is changed, the last one or one that has others behind it.
-use Rattle.std.proofs.Common.{◌≡◌, ℕ, suc, ◌+◌, ◌-◌, ◌<◌, ◌≤◌, Bool, true, false, eqb, cond, List, [], ◌∷◌, ◌++◌, length, get_or, set, Option, Some, None, option_map, Result, Ok, Err, refl, sym, ap, ◌∙◌, arith}
+use Rattle.std.proofs.Common.{◌≡◌, ℕ, suc, ◌+◌, ◌-◌, ◌<◌, ◌≤◌, Bool, true, false, eqb, cond, List, [], ◌∷◌, ◌++◌, length, get_or, set, Option, Some, None, option_map, Result, Ok, Err, refl, sym, ap, subst, ◌∙◌, arith}
 use Rattle.std.proofs.lemmas.Bool.{eq-eqb, eqb-true, eqb-false}
 use Rattle.std.proofs.lemmas.List.{length-append}
 use Rattle.form_ast.specs.declared.expr.Piece.{Piece}
@@ -88,3 +88,46 @@ module _ (r : Reading) (c : Change) (behind n : ℕ) (count : n ≡ length r.pie
     change_answers (Ok u) y e = change_gives y e
     change_answers (Err BadSyntax) y e = change_fails e
     change_answers (Err Memory) y e = tt
+
+-- what pieces stand behind others
+option_map_same : {A : Type 0} (o : Option A) → o ≡ option_map (λ x. x) o
+option_map_same None = refl
+option_map_same (Some x) = refl
+
+change_behind : (c : Change) (behind : ℕ) (front ps : List Piece) → behind < length ps → with_change behind c (front ++ ps) ≡ option_map (λ qs. front ++ qs) (with_change behind c ps)
+unfolding with_change
+change_behind c behind [] ps some = option_map_same (with_change behind c ps)
+change_behind c behind (a ∷ front) ps some =
+    by_test (eqb (length (front ++ ps)) behind) refl
+    ∙ ap (option_map (λ pieces. a ∷ pieces)) (change_behind c behind front ps some)
+    ∙ option_map_twice (λ qs. front ++ qs) (λ pieces. a ∷ pieces) (with_change behind c ps)
+  where
+    by_test : (b : Bool) → eqb (length (front ++ ps)) behind ≡ b
+        → cond b (option_map (λ y. y ∷ front ++ ps) (changed c a)) (option_map (λ pieces. a ∷ pieces) (with_change behind c (front ++ ps)))
+        ≡ option_map (λ pieces. a ∷ pieces) (with_change behind c (front ++ ps))
+    by_test false e = refl
+    by_test true e = absurd (omega (arith, some, length-append front ps, eqb-true (length (front ++ ps)) behind e))
+
+-- the reading with pieces in front of its own
+abbrev pub before : List Piece → Reading → Reading
+before front r = record { pieces = front ++ r.pieces; opened = r.opened; expected = r.expected }
+
+changed_before : (front : List Piece) (r : Reading) (c : Change) (behind : ℕ) → behind < length r.pieces → changed_reading behind c (before front r) ≡ option_map (before front) (changed_reading behind c r)
+changed_before front r c behind some =
+    ap (option_map (with_pieces (before front r) c behind (length (front ++ r.pieces)) refl)) (change_behind c behind front r.pieces some)
+    ∙ option_map_twice (λ qs. front ++ qs) (with_pieces (before front r) c behind (length (front ++ r.pieces)) refl) (with_change behind c r.pieces)
+    ∙ sym (option_map_twice (with_pieces r c behind (length r.pieces) refl) (before front) (with_change behind c r.pieces))
+
+gives_before : (front : List Piece) (answer : Result (Unit {0}) ReadError) (r : Reading) (o : Option Reading) → Gives (λ _. r) answer o → Gives (λ _. before front r) answer (option_map (before front) o)
+gives_before front (Ok u) r o e = ap (option_map (before front)) e
+gives_before front (Err BadSyntax) r o e = ap (option_map (before front)) e
+gives_before front (Err Memory) r o e = tt
+
+-- the same where others stand in front
+pub change_answers_behind : (front : List Piece) (r : Reading) (c : Change) (behind n : ℕ) (count : n ≡ length r.pieces) (x : Piece) (some : behind < n) (is : x ≡ get_or r.pieces (n - 1 - behind) x)
+    (answer : Result (Unit {0}) ReadError) (y : Piece) → Gives (λ _. y) answer (changed c x)
+    → Gives (λ _. before front (record { pieces = set r.pieces (n - 1 - behind) y; opened = r.opened; expected = r.expected })) answer (changed_reading behind c (before front r))
+change_answers_behind front r c behind n count x some is answer y e =
+    subst (λ o. Gives (λ _. before front (record { pieces = set r.pieces (n - 1 - behind) y; opened = r.opened; expected = r.expected })) answer o)
+    (sym (changed_before front r c behind (omega (arith, count, some))))
+    (gives_before front answer (record { pieces = set r.pieces (n - 1 - behind) y; opened = r.opened; expected = r.expected }) (changed_reading behind c r) (change_answers r c behind n count x some is answer y e))

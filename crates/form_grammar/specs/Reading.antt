@@ -10,6 +10,7 @@ use Rattle.form_ast.specs.declared.expr.Restriction.TheVariants as restrictions
 use Rattle.form_ast.specs.declared.expr.Piece.{Piece}
 use Rattle.form_ast.specs.declared.expr.Piece.TheVariants as piece
 use Rattle.form_ast.specs.declared.setting.Setting.{Setting}
+use Rattle.form_ast.specs.Joined.{joined}
 use Rattle.form_ast.specs.Lawful.{most_open}
 use Rattle.form_grammar.specs.declared.error.ReadError.{ReadError}
 use Rattle.form_grammar.specs.declared.error.ReadError.TheVariants.{BadSyntax, Memory}
@@ -47,7 +48,7 @@ pub record Reading : Type 0 where
   pub expected : Expected
 
 abbrev pub reading_of : Reader → Reading
-reading_of r = record { pieces = r.pieces.items; opened = r.opened; expected = r.expected }
+reading_of r = record { pieces = joined r.parts.items ++ r.pieces.items; opened = r.opened; expected = r.expected }
 
 abbrev pub begun : Reading
 begun = record { pieces = []; opened = []; expected = Factor by_link.First }

@@ -1,7 +1,8 @@
-ghost use Rattle.std.specs.Prelude.{◌≡◌, is_some, false, map};
+ghost use Rattle.std.specs.Prelude.{◌≡◌, ◌<◌, ◌≤◌, length, [], is_some, true, false, map, ◌++◌, IfOk, OnOk};
 ghost use Rattle.form_ast.specs.declared.expr.Named.TheVariants.{Declared};
 ghost use Rattle.form_ast.specs.declared.expr.Piece.TheVariants as by_piece;
-ghost use Rattle.form_grammar.specs.declared.effect.Expected.TheVariants.{Exponent, Operator};
+ghost use Rattle.form_ast.specs.Joined.{joined};
+ghost use Rattle.form_grammar.specs.declared.effect.Expected.TheVariants.{Exponent, Factor, Operator};
 ghost use Rattle.form_grammar.specs.declared.effect.Last.TheVariants as by_last;
 ghost use Rattle.std.specs.Vec.Iter.{into_iter_items};
 ghost use Rattle.form_grammar.specs.declared.effect.Effect.TheVariants.{Adds, Waits, Changes, Opens, Encloses, Calls, Closes, Parts, Dots};
@@ -18,22 +19,31 @@ use crate::effect::{
 };
 use crate::terminal::{Terminal, mark_terminal};
 use form_ast::{
-    Expr, Link, NameList, Named, Number, NumberList, Piece, Restriction, Setting, Sign,
+    Expr, Link, LongExpr, NameList, Named, Number, NumberList, Piece, Restriction, Setting, Sign,
     SignedNumber, Spelled,
 };
 use form_base::{Name, Spot};
 use form_lexer::{BuiltIn, Mark, Shape, Token, TokenKind};
-use std::alloc::Global;
+use std::alloc::{AllocError, Global};
 use std::mem::replace;
 use std::vec::IntoIter;
 
 /// So many parentheses may be open at a place, those of a power and of arguments with them.
 const MOST_OPEN: usize = 64;
 
+/// So many pieces a part has at least, but the last.
+const LEAST_PIECES: usize = 960;
+
+/// For so many there is room where a part is begun: below 64 KB, so that the memory is used again for what is small.
+const MOST_PIECES: usize = 1024;
+
 /// A right side or a pattern while it is read.
 #[derive(Drop)]
 pub struct Reader {
     alloc: Global,
+    /// The pieces up to some term, in parts.
+    parts: Vec<Expr>,
+    /// Those behind them.
     pieces: Vec<Piece>,
     /// The parentheses that are open.
     opened: Brackets,
@@ -161,12 +171,23 @@ fn change_piece(alloc: Global, piece: &mut Piece, change: Change) -> Result<(), 
     Ok(())
 }
 
+/// The right side that has these parts, and these pieces behind them.
+#[tactic(auto, using(crate::proofs::Ended::last_part))]
+fn whole(parts: Vec<Expr>, pieces: Vec<Piece>) -> Result<LongExpr, AllocError>
+    ensures { IfOk result (λ expr. expr ≡ joined parts.items ++ pieces.items) }
+{
+    let mut parts = parts;
+    parts.push(Expr::from_vec(pieces))?;
+    Ok(LongExpr::from_vec(parts))
+}
+
 impl Reader {
     pub fn new(alloc: Global) -> Reader
         ensures { reading_of result ≡ begun }
     {
         Reader {
             alloc,
+            parts: Vec::new(alloc),
             pieces: Vec::new(alloc),
             opened: Brackets::new(alloc),
             expected: Expected::Factor(Link::First),
@@ -179,14 +200,41 @@ impl Reader {
         self.opened.len() < MOST_OPEN
     }
 
+    /// Joins the parts.
+    #[inline(never)]
+    fn join(&mut self) -> Result<(), AllocError>
+        ensures same { OnOk result (reading_of self.new ≡ reading_of self.old) }
+        ensures joined { OnOk result (self.new.parts.items ≡ []) }
+    {
+        let parts = replace(&mut self.parts, Vec::new(self.alloc));
+        let pieces = replace(&mut self.pieces, Vec::new(self.alloc));
+        let whole = whole(parts, pieces)?.into_expr(self.alloc)?;
+        self.pieces = whole.into_vec();
+        Ok(())
+    }
+
+    /// Whether there is a piece with so many behind it, which then stands in no part that is ended.
+    #[inline(always)]
+    fn reaches(&mut self, behind: usize) -> Result<bool, AllocError>
+        ensures same { OnOk result (reading_of self.new ≡ reading_of self.old) }
+        ensures found { IfOk result (λ found. found ≡ true → behind < length self.new.pieces.items) }
+        ensures missing { IfOk result (λ found. found ≡ false → length (reading_of self.new).pieces ≤ behind) }
+    {
+        if self.pieces.len() > behind {
+            return Ok(true);
+        }
+        self.join()?;
+        Ok(self.pieces.len() > behind)
+    }
+
     /// Changes the piece that has so many behind it.
     fn change(&mut self, behind: usize, change: Change) -> Result<(), ReadError>
         ensures { Gives (λ _. reading_of self.new) result (changed_reading behind change (reading_of self.old)) }
     {
-        let count = self.pieces.len();
-        if count <= behind {
+        if !self.reaches(behind)? {
             return Err(ReadError::BadSyntax);
         }
+        let count = self.pieces.len();
         change_piece(self.alloc, &mut self.pieces[count - 1 - behind], change)
     }
 
@@ -226,10 +274,10 @@ impl Reader {
     fn call_name(&mut self, behind: usize) -> Result<(), ReadError>
         ensures { Gives (λ _. reading_of self.new) result (changed_reading behind Change.Call (reading_of self.old)) }
     {
-        let count = self.pieces.len();
-        if count <= behind {
+        if !self.reaches(behind)? {
             return Err(ReadError::BadSyntax);
         }
+        let count = self.pieces.len();
         call_piece(&mut self.pieces[count - 1 - behind])
     }
 
@@ -475,8 +523,8 @@ impl Reader {
         match mark {
             Mark::Times => self.wait(Expected::Factor(Link::Times)),
             Mark::Over => self.wait(Expected::Factor(Link::Over)),
-            Mark::Plus => self.wait(Expected::Factor(Link::Plus)),
-            Mark::Minus => self.wait(Expected::Factor(Link::Minus)),
+            Mark::Plus => self.wait_for_term(Link::Plus),
+            Mark::Minus => self.wait_for_term(Link::Minus),
             Mark::Power => self.raise(last),
             Mark::Open => self.open_behind(last),
             Mark::Close => self.close(),
@@ -554,6 +602,33 @@ impl Reader {
         Ok(())
     }
 
+    /// A further term with this sign is expected next.
+    #[inline(always)]
+    fn wait_for_term(&mut self, link: Link) -> Result<(), ReadError>
+        ensures { Gives (λ _. reading_of self.new) result (applied (reading_of self.old) (Waits (Factor link))) }
+    {
+        if self.pieces.len() >= LEAST_PIECES {
+            self.end_part()?;
+        }
+        self.wait(Expected::Factor(link))
+    }
+
+    /// Ends a part, where no parenthesis is open.
+    #[inline(never)]
+    #[tactic(auto, using(crate::proofs::Ended::last_part))]
+    fn end_part(&mut self) -> Result<(), AllocError>
+        ensures same { OnOk result (reading_of self.new ≡ reading_of self.old) }
+        ensures ended { OnOk result (self.old.opened ≡ [] → self.new.pieces.items ≡ []) }
+        ensures kept { OnOk result ((self.old.opened ≡ [] → ⊥) → self.new.parts.items ≡ self.old.parts.items) }
+    {
+        if self.opened.len() == 0 {
+            let next = Vec::with_capacity(self.alloc, MOST_PIECES)?;
+            let pieces = replace(&mut self.pieces, next);
+            self.parts.push(Expr::from_vec(pieces))?;
+        }
+        Ok(())
+    }
+
     /// Goes one token further, that of this shape that is written so.
     #[inline(always)]
     pub fn take_shape(
@@ -597,14 +672,14 @@ impl Reader {
     }
 
     /// All of it, where it is complete.
-    pub fn finish(self) -> Result<Expr, ReadError>
+    pub fn finish(self) -> Result<LongExpr, ReadError>
         ensures { Gives (λ expr. expr) result (finished (reading_of self)) }
     {
         if !may_end(self.expected) || self.opened.len() != 0 {
             return Err(ReadError::BadSyntax);
         }
-        let Reader { pieces, .. } = self;
-        Ok(Expr::from_vec(pieces))
+        let Reader { parts, pieces, .. } = self;
+        Ok(whole(parts, pieces)?)
     }
 }
 
@@ -617,5 +692,5 @@ pub fn run(alloc: Global, setting: Setting, tokens: IntoIter<Token>) -> Result<E
     for token in tokens {
         reader.take(setting, Terminal::from(token))?;
     }
-    reader.finish()
+    Ok(reader.finish()?.into_expr(alloc)?)
 }

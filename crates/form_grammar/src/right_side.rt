@@ -11,7 +11,7 @@ ghost use Rattle.form_lexer.specs.Reading.{kind_of};
 use crate::ReadError;
 use crate::reader::Reader;
 use crate::terminal::Terminal;
-use form_ast::{Expr, Setting};
+use form_ast::{LongExpr, Setting};
 use form_base::Spot;
 use form_lexer::Shape;
 use std::alloc::{AllocError, Global};
@@ -77,7 +77,7 @@ impl RightSide {
     }
 
     /// The right side, where it is complete.
-    pub fn finish(self) -> Result<Expr, ReadError>
+    pub fn finish(self) -> Result<LongExpr, ReadError>
         ensures found { IfOk result (λ expr. (read : List Terminal) → HasRead read self → IsExpr read expr) }
         ensures none { IfErr result (λ error. (read : List Terminal) → HasRead read self → Excludes error (IsExpr read)) }
     {

@@ -229,11 +229,12 @@ module _ (table : List (Option (List Piece))) (steps : List Step) (outermost : H
         opens,
         (factors_on steps s outermost at u os factors_open refl refl where_around, one_taken steps s at u refl factors_open.host free stands.1),
         made_same p c (c + 1) (state opens new) (among table host used outside old p c some ∙ ap (λ (o : Option State). cons_option o (all_from p (c + 1))) tried),
+        omega arith,
       )
 
   use_refused : (p : PatternPiece) (c : ℕ) → c < candidates host p → trial host used outside old p c ≡ None → IsAttempt (attempts.Failed (c + 1)) table p steps outermost os c old new
   use_refused p c some none =
-      both_same p c (c + 1) (among table host used outside old p c some ∙ ap (λ (o : Option State). cons_option o (all_from p (c + 1))) none)
+      (both_same p c (c + 1) (among table host used outside old p c some ∙ ap (λ (o : Option State). cons_option o (all_from p (c + 1))) none), omega arith)
 
   pub use_none : (p : PatternPiece) (c : ℕ) → c < candidates host p → chosen_of old (choice_at host p c) ≡ None → IsAttempt (attempts.Failed (c + 1)) table p steps outermost os c old new
   use_none p c some is = use_refused p c some (not_chosen host used outside old new (choice_at host p c) is)
@@ -278,7 +279,7 @@ module _ (table : List (Option (List Piece))) (steps : List Step) (outermost : H
     function_first = candidate_first (function_trial n host used outside old) (length host.term.others.functions) c (got host.term.others.functions c call found)
 
     function_refused : function_trial n host used outside old c ≡ None → IsAttempt (attempts.Failed (c + 1)) table (pieces.Function n) steps outermost os c old new
-    function_refused none = both_same (pieces.Function n) c (c + 1) (function_first ∙ ap (λ (o : Option State). cons_option o (all_from (pieces.Function n) (c + 1))) none)
+    function_refused none = (both_same (pieces.Function n) c (c + 1) (function_first ∙ ap (λ (o : Option State). cons_option o (all_from (pieces.Function n) (c + 1))) none), omega arith)
 
     pub function_clashes : (place : ℕ) → place ≡ c → list_any (λ v. clashes v (uses.Function place)) used ≡ true → IsAttempt (attempts.Failed (c + 1)) table (pieces.Function n) steps outermost os c old new
     function_clashes place is clash =
@@ -308,6 +309,7 @@ module _ (table : List (Option (List Piece))) (steps : List Step) (outermost : H
               inside,
               (function_begins steps s outermost at u os factors_open refl span call.pieces refl where_around refl there lawful, one_taken steps s at u refl factors_open.host none stands.1),
               made_same (pieces.Function n) c (c + 1) (state inside new) (function_first ∙ ap (λ (o : Option State). cons_option o (all_from (pieces.Function n) (c + 1))) tried),
+              omega arith,
             )
 
   pub functions_spent : (n : Name) (c : ℕ) → slice_get host.term.others.functions c ≡ None → from table (pieces.Function n) os old c ≡ []
@@ -323,7 +325,7 @@ module _ (table : List (Option (List Piece))) (steps : List Step) (outermost : H
   stretches_spent n c none = same (pieces.Word n) c ∙ candidate_last (stretch_trial n host used outside old) (suc (length host.term.others.word) - n) c none
 
   stretch_refused : (n c : ℕ) → c < suc (length host.term.others.word) - n → stretch_trial n host used outside old c ≡ None → IsAttempt (attempts.Failed (c + 1)) table (pieces.Word n) steps outermost os c old new
-  stretch_refused n c some none = both_same (pieces.Word n) c (c + 1) (stretch_first n c some ∙ ap (λ (o : Option State). cons_option o (all_from (pieces.Word n) (c + 1))) none)
+  stretch_refused n c some none = (both_same (pieces.Word n) c (c + 1) (stretch_first n c some ∙ ap (λ (o : Option State). cons_option o (all_from (pieces.Word n) (c + 1))) none), omega arith)
 
   pub stretch_cut : (n c : ℕ) → c < suc (length host.term.others.word) - n → is_uncut host.cuts n c ≡ false → IsAttempt (attempts.Failed (c + 1)) table (pieces.Word n) steps outermost os c old new
   stretch_cut n c some cut = stretch_refused n c some (ap (λ (b : Bool). if b then with_stretch n host used outside old c else None) cut)
@@ -355,6 +357,7 @@ module _ (table : List (Option (List Piece))) (steps : List Step) (outermost : H
             opens,
             (word_begins steps s outermost at u os factors_open refl c refl where_around, one_taken steps s at u refl factors_open.host none stands.1),
             made_same (pieces.Word n) c (c + 1) (state opens new) (stretch_first n c some ∙ ap (λ (o : Option State). cons_option o (all_from (pieces.Word n) (c + 1))) tried),
+            omega arith,
           )
 
   -- ---- the end of a product
@@ -370,7 +373,7 @@ module _ (table : List (Option (List Piece))) (steps : List Step) (outermost : H
   pub no_product : at ≡ 0 → IsAttempt (attempts.Failed 1) table pieces.EndOfProduct steps outermost os 0 old new
   no_product zero_at =
       let none : outside ≡ [] = subst (λ (k : ℕ). IsAround (frames.Factors k) outside (AreOpen steps outermost (k - 1) (around_at steps (length steps)) outside)) zero_at factors_open.around in
-      product_same ∙ ap (λ (l : List Open). moves table pieces.EndOfProduct (factors host used ∷ l) old) none
+      (product_same ∙ ap (λ (l : List Open). moves table pieces.EndOfProduct (factors host used ∷ l) old) none, omega arith)
 
   module _ (around : ℕ) (where_around : around ≡ around_at steps (length steps)) (f : Frame) (framed_around : frame_at steps around ≡ f) (inner_at : at ≢ 0) where
     pub outer_open : Shown steps outermost (at - 1) around f outside
@@ -387,7 +390,7 @@ module _ (table : List (Option (List Piece))) (steps : List Step) (outermost : H
     product_around = product_same ∙ ap (λ (l : List Open). moves table pieces.EndOfProduct (factors host used ∷ l) old) outer_open.is
 
     pub product_misplaced : (moves table pieces.EndOfProduct (factors host used ∷ open_of steps outermost f ∷ outer_open.rest) old ≡ []) → IsAttempt (attempts.Failed 1) table pieces.EndOfProduct steps outermost os 0 old new
-    product_misplaced none = product_around ∙ none
+    product_misplaced none = (product_around ∙ none, omega arith)
 
   module _ (around : ℕ) (where_around : around ≡ around_at steps (length steps)) (span : Span) (framed_around : frame_at steps around ≡ frames.Arguments span) (inner_at : at ≢ 0) where
     abbrev outer : Shown steps outermost (at - 1) around (frames.Arguments span) outside
@@ -402,7 +405,7 @@ module _ (table : List (Option (List Piece))) (steps : List Step) (outermost : H
 
     -- something of the term is left
     pub product_left : is_one (left_of host.term used) ≡ false → IsAttempt (attempts.Failed 1) table pieces.EndOfProduct steps outermost os 0 old new
-    product_left is = product_ends false is
+    product_left is = (product_ends false is, omega arith)
 
     pub product_made : (n after : ℕ) → is_one (left_of host.term used) ≡ true → arguments_of (drop n (pieces_at steps outermost span)) ≡ drop 1 left → AreArguments (drop n (pieces_at steps outermost span))
         → after ≡ around_at steps around → old ≡ new
@@ -416,6 +419,7 @@ module _ (table : List (Option (List Piece))) (steps : List Step) (outermost : H
           opens,
           (arguments_on steps s outermost refl (at - 1) around outside within span next ps outer refl where_after refl (pieces_less steps outermost span n) lawful, nothing_taken steps s refl stands.1),
           product_ends true is ∙ ap (λ (xs : List terms.Argument). state (arguments xs ∷ outer.rest) old ∷ []) (sym behind) ∙ ap (λ (bs : List Binding). state opens bs ∷ []) unchanged,
+          omega arith,
         )
 
 -- ---- where a word is open
@@ -462,7 +466,7 @@ module _ (table : List (Option (List Piece))) (steps : List Step) (outermost : H
 
   pub no_call : (n : Name) → slice_get word_host.term.others.word from_place ≡ None → IsAttempt (attempts.Failed 1) table (pieces.Call n) steps outermost os 0 old new
   no_call n none =
-      word_same (pieces.Call n) 0 ∙ ap (λ (cs : List Call). option_to_list (with_call n cs word_open.rest old)) (drop_all from_place word_host.term.others.word (not_got word_host.term.others.word from_place none))
+      (word_same (pieces.Call n) 0 ∙ ap (λ (cs : List Call). option_to_list (with_call n cs word_open.rest old)) (drop_all from_place word_host.term.others.word (not_got word_host.term.others.word from_place none)), omega arith)
 
   module _ (n : Name) (call : Call) (found : slice_get word_host.term.others.word from_place ≡ Some call) where
     abbrev inside_call : List Open
@@ -479,7 +483,7 @@ module _ (table : List (Option (List Piece))) (steps : List Step) (outermost : H
         (ap (λ (cs : List Call). calls cs ∷ word_open.rest) (sym first) ∙ sym word_open.is))
 
     pub call_fails : Tells false (learnt_of old (asked_function n call.function)) new → IsAttempt (attempts.Failed 1) table (pieces.Call n) steps outermost os 0 old new
-    call_fails told = call_tried ∙ ap (λ (o : Option (List Binding)). option_to_list (option_map (state inside_call) o)) told
+    call_fails told = (call_tried ∙ ap (λ (o : Option (List Binding)). option_to_list (option_map (state inside_call) o)) told, omega arith)
 
     pub call_made : (around : ℕ) → Tells true (learnt_of old (asked_function n call.function)) new → AreArguments call.pieces → around ≡ length steps
         → IsAttempt (attempts.Made 1 (moved (frames.Arguments (record { host = at; in_word = true; place = from_place; from = 0 })) around)) table (pieces.Call n) steps outermost os 0 old new
@@ -490,6 +494,7 @@ module _ (table : List (Option (List Piece))) (steps : List Step) (outermost : H
           inside_call,
           (call_begins steps s outermost refl at from_place os span call.pieces word_open refl where_around refl there lawful, nothing_taken steps s refl stands.1),
           call_tried ∙ ap (λ (o : Option (List Binding)). option_to_list (option_map (state inside_call) o)) told,
+          omega arith,
         )
 
   module _ (around : ℕ) (where_around : around ≡ around_at steps (length steps)) (f : Frame) (framed_around : frame_at steps around ≡ f) where
@@ -499,7 +504,7 @@ module _ (table : List (Option (List Piece))) (steps : List Step) (outermost : H
         (λ is. shown steps outermost at (around_at steps (length steps)) f word_open.rest is word_open.around) framed_around
 
     pub word_misplaced : (moves table pieces.EndOfWord (calls word_left_over ∷ open_of steps outermost f ∷ around_word.rest) old ≡ []) → IsAttempt (attempts.Failed 1) table pieces.EndOfWord steps outermost os 0 old new
-    word_misplaced none = word_same pieces.EndOfWord 0 ∙ ap (λ (l : List Open). moves table pieces.EndOfWord (calls word_left_over ∷ l) old) around_word.is ∙ none
+    word_misplaced none = (word_same pieces.EndOfWord 0 ∙ ap (λ (l : List Open). moves table pieces.EndOfWord (calls word_left_over ∷ l) old) around_word.is ∙ none, omega arith)
 
   pub word_ends : (around after outer_at : ℕ) → around ≡ around_at steps (length steps) → frame_at steps around ≡ frames.Factors outer_at → after ≡ around_at steps around → old ≡ new
       → IsAttempt (attempts.Made 1 (moved (frames.Factors outer_at) after)) table pieces.EndOfWord steps outermost os 0 old new
@@ -511,6 +516,7 @@ module _ (table : List (Option (List Piece))) (steps : List Step) (outermost : H
         (again steps s outermost refl at around word_open.rest word_open.host f outer refl where_after, nothing_taken steps s refl stands.1),
         word_same pieces.EndOfWord 0 ∙ ap (λ (l : List Open). moves table pieces.EndOfWord (calls word_left_over ∷ l) old) outer.is
             ∙ ap (λ (l : List Open). state l old ∷ []) (sym outer.is) ∙ ap (λ (bs : List Binding). state word_open.rest bs ∷ []) unchanged,
+        omega arith,
       )
 
 -- ---- where arguments are open
@@ -585,7 +591,7 @@ module _ (table : List (Option (List Piece))) (steps : List Step) (outermost : H
   -- ---- the end of arguments
 
   pub arguments_stay : 0 < length here_pieces → IsAttempt (attempts.Failed 1) table pieces.EndOfArguments steps outermost os 0 old new
-  arguments_stay some = by here_pieces refl
+  arguments_stay some = (by here_pieces refl, omega arith)
     where
       none_behind : (x : terms.Argument) (xs : List terms.Argument) (l : List Open) → behind_arguments (x ∷ xs) l old ≡ []
       none_behind x xs [] = refl
@@ -610,7 +616,7 @@ module _ (table : List (Option (List Piece))) (steps : List Step) (outermost : H
         as_read pieces.EndOfArguments 0 [] (ap arguments_of empty ∙ no_arguments) ∙ ap (λ (l : List Open). behind_arguments [] l old) (around_arguments f framed_around).is
 
     pub arguments_misplaced : (other : Span) → frame_at steps around ≡ frames.Arguments other → IsAttempt (attempts.Failed 1) table pieces.EndOfArguments steps outermost os 0 old new
-    arguments_misplaced other framed_around = ends_with (frames.Arguments other) framed_around
+    arguments_misplaced other framed_around = (ends_with (frames.Arguments other) framed_around, omega arith)
 
     pub arguments_end : (outer_at after : ℕ) → frame_at steps around ≡ frames.Factors outer_at → after ≡ around_at steps around → old ≡ new
         → IsAttempt (attempts.Made 1 (moved (frames.Factors outer_at) after)) table pieces.EndOfArguments steps outermost os 0 old new
@@ -621,6 +627,7 @@ module _ (table : List (Option (List Piece))) (steps : List Step) (outermost : H
           beyond,
           (again steps s outermost refl span.host around beyond arguments_open.host f outer refl where_after, nothing_taken steps s refl stands.1),
           ends_with f framed_around ∙ ap (λ (l : List Open). state l old ∷ []) (sym outer.is) ∙ ap (λ (bs : List Binding). state beyond bs ∷ []) unchanged,
+          omega arith,
         )
 
     pub arguments_end_in_word : (outer_at place after : ℕ) → frame_at steps around ≡ frames.Calls outer_at place → after ≡ around_at steps around → old ≡ new
@@ -634,6 +641,7 @@ module _ (table : List (Option (List Piece))) (steps : List Step) (outermost : H
           opens,
           (calls_on steps s outermost refl span.host around beyond arguments_open.host outer_at place (place + 1) outer refl where_after, nothing_taken steps s refl stands.1),
           ends_with f framed_around ∙ ap (λ (cs : List Call). state (calls cs ∷ outer.rest) old ∷ []) (drop-drop 1 place word) ∙ ap (λ (bs : List Binding). state opens bs ∷ []) unchanged,
+          omega arith,
         )
 
   -- ---- the first argument
@@ -662,7 +670,7 @@ module _ (table : List (Option (List Piece))) (steps : List Step) (outermost : H
         ∙ ap (λ (xs : List terms.Argument). if is_fixed_argument table k front then state (arguments xs ∷ beyond) old ∷ [] else []) (sym first.behind_is)
 
     pub fixed_fails : (k : ℕ) → is_fixed_argument table k front ≡ false → IsAttempt (attempts.Failed 1) table (pieces.Fixed k) steps outermost os 0 old new
-    fixed_fails k is = fixed_tried k ∙ ap (λ (b : Bool). if b then state next_open old ∷ [] else []) is
+    fixed_fails k is = (fixed_tried k ∙ ap (λ (b : Bool). if b then state next_open old ∷ [] else []) is, omega arith)
 
     pub fixed_made : (k around : ℕ) → is_fixed_argument table k front ≡ true → around ≡ around_at steps (length steps) → old ≡ new
         → IsAttempt (attempts.Made 1 (moved (frames.Arguments (record span { from = span.from + length front })) around)) table (pieces.Fixed k) steps outermost os 0 old new
@@ -670,6 +678,7 @@ module _ (table : List (Option (List Piece))) (steps : List Step) (outermost : H
       next_open,
       goes_on (length front) around 1 behind behind_front first.behind_lawful where_around,
       fixed_tried k ∙ ap (λ (b : Bool). if b then state next_open old ∷ [] else []) is ∙ ap (λ (bs : List Binding). state next_open bs ∷ []) unchanged,
+      omega arith,
     )
 
     any_tried : (sort : Sort) (n : Name) → from table (pieces.Any sort n) os old 0 ≡ option_to_list (option_map (state next_open) (learnt_of old (any_asked sort n first.first)))
@@ -688,7 +697,7 @@ module _ (table : List (Option (List Piece))) (steps : List Step) (outermost : H
             as_list (Some x) = refl
 
     pub any_fails : (sort : Sort) (n : Name) → Tells false (learnt_of old (any_asked sort n first.first)) new → IsAttempt (attempts.Failed 1) table (pieces.Any sort n) steps outermost os 0 old new
-    any_fails sort n told = any_tried sort n ∙ ap (λ (o : Option (List Binding)). option_to_list (option_map (state next_open) o)) told
+    any_fails sort n told = (any_tried sort n ∙ ap (λ (o : Option (List Binding)). option_to_list (option_map (state next_open) o)) told, omega arith)
 
     pub any_made : (sort : Sort) (n : Name) (around : ℕ) → Tells true (learnt_of old (any_asked sort n first.first)) new → around ≡ around_at steps (length steps)
         → IsAttempt (attempts.Made 1 (moved (frames.Arguments (record span { from = span.from + length front })) around)) table (pieces.Any sort n) steps outermost os 0 old new
@@ -696,13 +705,14 @@ module _ (table : List (Option (List Piece))) (steps : List Step) (outermost : H
       next_open,
       goes_on (length front) around 1 behind behind_front first.behind_lawful where_around,
       any_tried sort n ∙ ap (λ (o : Option (List Binding)). option_to_list (option_map (state next_open) o)) told,
+      omega arith,
     )
 
   pub none_fixed : (k : ℕ) → here_pieces ≡ [] → IsAttempt (attempts.Failed 1) table (pieces.Fixed k) steps outermost os 0 old new
-  none_fixed k empty = as_read (pieces.Fixed k) 0 [] (ap arguments_of empty ∙ no_arguments)
+  none_fixed k empty = (as_read (pieces.Fixed k) 0 [] (ap arguments_of empty ∙ no_arguments), omega arith)
 
   pub none_any : (sort : Sort) (n : Name) → here_pieces ≡ [] → IsAttempt (attempts.Failed 1) table (pieces.Any sort n) steps outermost os 0 old new
-  none_any sort n empty = as_read (pieces.Any sort n) 0 [] (ap arguments_of empty ∙ no_arguments)
+  none_any sort n empty = (as_read (pieces.Any sort n) 0 [] (ap arguments_of empty ∙ no_arguments), omega arith)
 
   -- ---- a field
 
@@ -735,7 +745,7 @@ module _ (table : List (Option (List Piece))) (steps : List Step) (outermost : H
 
       pub field_fails : Tells false (and_bound old (binding (wildcards.Field w) value)) new → IsAttempt (attempts.Failed next) table (pieces.Field w) steps outermost os c old new
       field_fails told =
-          field_tried ∙ ap (λ (o : Option (List Binding)). cons_option (option_map (state (arguments (drop walked.count args) ∷ beyond)) o) (from table (pieces.Field w) os old next)) (learns false told)
+          (field_tried ∙ ap (λ (o : Option (List Binding)). cons_option (option_map (state (arguments (drop walked.count args) ∷ beyond)) o) (from table (pieces.Field w) os old next)) (learns false told), omega (arith, enough, next_is))
 
       pub field_made : (around : ℕ) → Tells true (and_bound old (binding (wildcards.Field w) value)) new → around ≡ around_at steps (length steps)
           → IsAttempt (attempts.Made next (moved (frames.Arguments (record span { from = span.from + n })) around)) table (pieces.Field w) steps outermost os c old new
@@ -745,6 +755,7 @@ module _ (table : List (Option (List Piece))) (steps : List Step) (outermost : H
             goes_on n around next (drop n here_pieces) refl walked.behind_lawful where_around,
             field_tried ∙ ap (λ (o : Option (List Binding)). cons_option (option_map (state (arguments (drop walked.count args) ∷ beyond)) o) (from table (pieces.Field w) os old next)) (learns true told)
                 ∙ ap (λ (xs : List terms.Argument). state (arguments xs ∷ beyond) new ∷ from table (pieces.Field w) os old next) (sym walked.behind_is),
+            omega (arith, enough, next_is),
           )
 
   -- ---- a product
@@ -755,7 +766,7 @@ module _ (table : List (Option (List Piece))) (steps : List Step) (outermost : H
 
     -- an expression of another number of terms is no product
     pub no_product_begins : length ms ≢ 1 → IsAttempt (attempts.Failed 1) table pieces.Product steps outermost os 0 old new
-    no_product_begins other = product_tried ∙ by args (ap length read)
+    no_product_begins other = (product_tried ∙ by args (ap length read), omega arith)
       where
         by : (xs : List terms.Argument) → length ms ≡ length (map as_monomial (first_summands xs)) → with_product xs beyond old ≡ []
         by [] e = refl
@@ -782,7 +793,7 @@ module _ (table : List (Option (List Piece))) (steps : List Step) (outermost : H
           by (terms.expression (s ∷ r ∷ ss) ∷ xs) e = cc
 
       pub product_fails : is_coefficient_one m.coefficient ≡ false → IsAttempt (attempts.Failed 1) table pieces.Product steps outermost os 0 old new
-      product_fails is = begun false is
+      product_fails is = (begun false is, omega arith)
 
       pub product_opens : (place around : ℕ) → is_coefficient_one m.coefficient ≡ true → place ≡ length steps + 1 → around ≡ length steps → old ≡ new
           → IsAttempt (attempts.Made 1 (record { frame = frames.Factors place; around = around; taken = None; inner = Some m.term })) table pieces.Product steps outermost os 0 old new
@@ -793,6 +804,7 @@ module _ (table : List (Option (List Piece))) (steps : List Step) (outermost : H
             opens,
             (product_begins steps s outermost refl m.term os stands.0 stands.1 (ap frames.Factors next) where_around refl, nothing_taken steps s refl stands.1),
             begun true is ∙ ap (λ (bs : List Binding). state opens bs ∷ []) unchanged,
+            omega arith,
           )
 
 -- ---- what the code answers

@@ -1,6 +1,6 @@
 -- The search as it runs: what its steps leave to be tried, and where it ends.
-use Rattle.std.proofs.Common.{◌≡◌, ℕ, zero, suc, ◌-◌, ◌≤◌, true, Bor, List, [], ◌∷◌, ◌++◌, length, take, drop, Option, Some, None, option_map, refl, sym, ap, subst, ◌∙◌, append_assoc, append-nil, arith, length-append, length-take}
-use Rattle.std.specs.Prelude.{flat_map, slice_get}
+use Rattle.std.proofs.Common.{◌≡◌, ℕ, zero, suc, ◌-◌, ◌≤◌, true, Bor, List, [], ◌∷◌, ◌++◌, length, take, drop, Option, Some, None, option_map, refl, sym, ap, subst, ◌∙◌, append_assoc, append-nil, arith, inl, inr, length-append, length-take}
+use Rattle.std.specs.Prelude.{◌<◌, IfSome, flat_map, slice_get}
 use Rattle.std.proofs.lemmas.List.{same_from_push}
 use Rattle.std.proofs.lemmas.Option.{same_Some}
 use Rattle.form_term.specs.declared.piece.Piece.{Piece}
@@ -12,11 +12,11 @@ use Rattle.form_match.specs.declared.frames.Attempt.{Attempt}
 use Rattle.form_match.specs.declared.frames.Attempt.TheVariants as attempts
 use Rattle.form_match.specs.declared.frames.Move.{Move}
 use Rattle.form_match.specs.declared.uses.Use.{Use}
-use Rattle.form_match.specs.Attempts.{AreKept, Finds, IsAttempt, IsBack, StandBehind, step_of}
+use Rattle.form_match.specs.Attempts.{AreKept, Finds, IsAttempt, IsBack, IsSomewhere, StandBehind, step_of}
 use Rattle.form_match.specs.Candidates.{from, pending}
 use Rattle.form_match.specs.Frames.{AreOpen, IsAround, around_at, bound_at, bound_of, frame_at, latest_around, open_of, step_at, uses_at}
 use Rattle.form_match.specs.Matching.{Host}
-use Rattle.form_match.specs.Running.{AreBehind, GoesOn, IsRunning, ahead}
+use Rattle.form_match.specs.Running.{AreBehind, GoesOn, IsLater, IsRunning, ahead, way}
 use Rattle.form_match.specs.States.{Open, factors, State, state, start, taken_in, first_found, reach}
 use Rattle.form_match.specs.Values.{Binding}
 use Rattle.form_match.proofs.Pushed.{step_last}
@@ -225,7 +225,7 @@ module _ (table : List (Option (List Piece))) (ps : List PatternPiece) (outermos
     pub passed_on : (next : ℕ) → a ≡ attempts.Failed next → IsRunning table ps outermost mids mid next
     passed_on next is =
         subst (λ (l : List Step). IsRunning table ps outermost l mid next) (sym same)
-        (subst (λ (l : List Binding). IsRunning table ps outermost steps l next) (sym (kept_as (attempts.Failed next) is)) (goes_past steps bs c r p at next (tried_as (attempts.Failed next) is)))
+        (subst (λ (l : List Binding). IsRunning table ps outermost steps l next) (sym (kept_as (attempts.Failed next) is)) (goes_past steps bs c r p at next (tried_as (attempts.Failed next) is).0))
 
     pub taken_back : (o : Option ℕ) (left : List Step) (new : List Binding) → a ≡ attempts.Spent → IsBack o mids left mid new → GoesOn o table ps outermost left new
     taken_back (Some next) left new is back =
@@ -233,6 +233,39 @@ module _ (table : List (Option (List Piece))) (ps : List PatternPiece) (outermos
         (subst (λ (n : ℕ). IsRunning table ps outermost left (take (bound_at left) mid) n) (sym back.2)
         (goes_back steps bs c r p at left back.0 mid (tried_as attempts.Spent is) (sym same ∙ back.1) (kept_as attempts.Spent is)))
     taken_back None left new is back = finds_none steps bs c r p at (tried_as attempts.Spent is) (sym same ∙ back)
+
+-- ---- each turn comes later than the one before
+
+led_on : (steps : List Step) (s : Step) (c : ℕ) → c < s.next → IsLater (way (steps ++ s ∷ []) 0) (way steps c)
+led_on [] s c rises = inl rises
+led_on (t ∷ steps) s c rises = inr (refl, led_on steps s c rises)
+
+led_past : (steps : List Step) (c next : ℕ) → c < next → IsLater (way steps next) (way steps c)
+led_past [] c next rises = inl rises
+led_past (t ∷ steps) c next rises = inr (refl, led_past steps c next rises)
+
+led_back : (steps : List Step) (s : Step) (c : ℕ) → IsLater (way steps s.next) (way (steps ++ s ∷ []) c)
+led_back [] s c = inr (refl, tt)
+led_back (t ∷ steps) s c = inr (refl, led_back steps s c)
+
+module _ (table : List (Option (List Piece))) (p : PatternPiece) (outermost : Host) (steps mids : List Step) (bs mid : List Binding) (c : ℕ) (at : IsSomewhere steps outermost) (same : mids ≡ steps)
+    (a : Attempt) (tried : (os : List Open) → StandBehind steps outermost os → IsAttempt a table p steps outermost os c bs mid) where
+  became : (b : Attempt) → a ≡ b → IsAttempt b table p steps outermost at.0 c bs mid
+  became b is = subst (λ (x : Attempt). IsAttempt x table p steps outermost at.0 c bs mid) is (tried at.0 at.1)
+
+  pub later_on : (next : ℕ) (m : Move) (made : List Step) → a ≡ attempts.Made next m → made ≡ mids ++ step_of next m (length mid) ∷ [] → IsLater (way made 0) (way steps c)
+  later_on next m made is e =
+      subst (λ (l : List Step). IsLater (way l 0) (way steps c)) (sym (e ∙ ap (λ (l : List Step). l ++ step_of next m (length mid) ∷ []) same))
+      (led_on steps (step_of next m (length mid)) c (became (attempts.Made next m) is).3)
+
+  pub later_past : (next : ℕ) → a ≡ attempts.Failed next → IsLater (way mids next) (way steps c)
+  later_past next is = subst (λ (l : List Step). IsLater (way l next) (way steps c)) (sym same) (led_past steps c next (became (attempts.Failed next) is).1)
+
+  pub later_back : (o : Option ℕ) (left : List Step) (new : List Binding) → IsBack o mids left mid new → IfSome o (λ d. IsLater (way left d) (way steps c))
+  later_back None left new back = tt
+  later_back (Some next) left new back =
+      subst (λ (n : ℕ). IsLater (way left n) (way steps c)) (sym back.2)
+      (subst (λ (l : List Step). IsLater (way left back.0.next) (way l c)) (sym back.1 ∙ same) (led_back left back.0 c))
 
 -- what is cut back to what was bound before is that
 pub cut_back : (old mid new : List Binding) (n : ℕ) → new ≡ take n mid → n ≡ length old → take (length old) mid ≡ old → new ≡ old

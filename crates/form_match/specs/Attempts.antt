@@ -44,12 +44,12 @@ abbrev pub IsSomewhere : List Step → Host → Type 0
 IsSomewhere steps outermost = (os : List Open) × StandBehind steps outermost os
 
 -- What became of a candidate of a piece, where this is open and bound: a step that leads to the first of what the
--- candidates make, and the next one; or that the candidate makes nothing; or that none is left.
+-- candidates make, and the next one; or that the candidate makes nothing; or that none is left. The next one is a later one.
 abbrev pub IsAttempt : Attempt → List (Option (List Piece)) → PatternPiece → List Step → Host → List Open → ℕ → (old new : List Binding) → Type 0
 IsAttempt (attempts.Made next m) table p steps outermost os c old new =
     (opens : List Open) × StandBehind (steps ++ step_of next m (length new) ∷ []) outermost opens
-    × (from table p os old c ≡ state opens new ∷ from table p os old next)
-IsAttempt (attempts.Failed next) table p steps outermost os c old new = from table p os old c ≡ from table p os old next
+    × (from table p os old c ≡ state opens new ∷ from table p os old next) × (c < next)
+IsAttempt (attempts.Failed next) table p steps outermost os c old new = (from table p os old c ≡ from table p os old next) × (c < next)
 IsAttempt attempts.Spent table p steps outermost os c old new = from table p os old c ≡ []
 
 -- what an attempt answers, wherever the search stands so

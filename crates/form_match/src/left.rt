@@ -39,7 +39,7 @@ fn leave_rest(alloc: Global, others: &mut Others, takes: &[Use]) -> Result<(), A
     leave_each(alloc, others, takes)
 }
 
-/// Whether there are no other factors than commuting functions and `i_`.
+/// Whether there are surely no other factors than commuting functions and `i_`.
 fn has_functions_alone(others: &Others) -> bool
     ensures { OnTrue result (IsOfFunctions others.now) }
 {

@@ -1,10 +1,10 @@
 //! The search for a match: the pieces of the pattern are tried in order, each with its candidates in order, and where one
 //! has none left, the one before it goes on.
-ghost use Rattle.std.specs.Prelude.{◌≡◌, [], ◌∷◌, ◌++◌, List, Some, IfOk, OnOk, length, option_map, slice_get, take as take_first};
+ghost use Rattle.std.specs.Prelude.{◌≡◌, [], ◌∷◌, ◌++◌, List, Some, IfOk, IfSome, OnOk, length, option_map, slice_get, take as take_first};
 ghost use Rattle.form_tree.specs.declared.pattern.PatternPiece.{PatternPiece};
 ghost use Rattle.form_match.specs.Attempts.{AreKept, Finds, IsAttempt, IsBack, IsSomewhere, IsTried, StandBehind, step_of, table_of};
 ghost use Rattle.form_match.specs.Frames.{bound_at as bound_in, ground_of, uses_at};
-ghost use Rattle.form_match.specs.Running.{GoesOn, IsRunning};
+ghost use Rattle.form_match.specs.Running.{GoesOn, IsLater, IsRunning, way};
 ghost use Rattle.form_match.specs.States.{Open, first_found, reach, start};
 
 use crate::arguments::attempt_argument;
@@ -70,11 +70,13 @@ impl Search {
     ) -> Result<Option<usize>, AllocError>
         requires stands { IsSomewhere self.old.steps.items (ground_of outermost.now) }
         requires bound { bound_in self.old.steps.items ≡ length self.old.bindings }
-        ensures { (ps : List PatternPiece) →
+        ensures goes_on { (ps : List PatternPiece) →
             IsRunning (table_of outermost.now.fixed.now) ps (ground_of outermost.now) self.old.steps.items self.old.bindings candidate →
             slice_get ps (length self.old.steps.items) ≡ Some piece.now →
             IfOk result (λ next. GoesOn next (table_of outermost.now.fixed.now) ps
             (ground_of outermost.now) self.new.steps.items self.new.bindings) }
+        ensures later { IfOk result (λ next. IfSome next (λ d.
+            IsLater (way self.new.steps.items d) (way self.old.steps.items candidate))) }
     {
         let attempt = self.attempt(alloc, outermost, piece, candidate)?;
         match attempt {

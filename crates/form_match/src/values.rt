@@ -29,10 +29,7 @@ pub fn symbol_pieces(symbol: Id) -> [Piece; 4]
     [
         Piece::Sum,
         Piece::Positive(Reverse(symbol), 1),
-        Piece::EndOfTerm(Coefficient {
-            numerator: 1,
-            denominator: 1,
-        }),
+        Piece::EndOfTerm(Coefficient::new(1, 1)),
         Piece::EndOfSum,
     ]
 }
@@ -44,10 +41,7 @@ pub fn number_pieces(number: &i128) -> [Piece; 3]
 {
     [
         Piece::Sum,
-        Piece::EndOfTerm(Coefficient {
-            numerator: *number,
-            denominator: 1,
-        }),
+        Piece::EndOfTerm(Coefficient::new(*number, 1)),
         Piece::EndOfSum,
     ]
 }
@@ -59,10 +53,7 @@ pub fn exponent_pieces(of: &Power) -> [Piece; 3]
 {
     [
         Piece::Sum,
-        Piece::EndOfTerm(Coefficient {
-            numerator: i128::from(of.exponent),
-            denominator: 1,
-        }),
+        Piece::EndOfTerm(Coefficient::new(i128::from(of.exponent), 1)),
         Piece::EndOfSum,
     ]
 }

@@ -1,10 +1,10 @@
 //! Products with a single factor, made in place where they can be.
-ghost use Rattle.std.specs.Prelude.{◌≡◌, ◌≤◌, ◌<◌, ◌↔◌, ◌++◌, nat_abs, length, [], ◌∷◌, false, Ok, Err, Some, IfOk, IfSome, IsTrue, OnOk};
+ghost use Rattle.std.specs.Prelude.{◌≡◌, ◌≤◌, ◌<◌, ◌↔◌, ◌++◌, nat_abs, length, [], ◌∷◌, false, Ok, Err, None, Some, IfOk, IfSome, IsTrue, OnOk};
 ghost use Rattle.std.specs.Bool.{OnTrue};
 ghost use Rattle.std.specs.List.{list_any, prefix_len};
 ghost use Rattle.form_base.specs.declared.cause.Cause.{Cause};
 ghost use Rattle.form_term.specs.Factor.{function_factor};
-ghost use Rattle.form_term.specs.Term.{IsTerm, RisesBy, call_order, nothing, of_others, one, largest_exponent};
+ghost use Rattle.form_term.specs.Term.{Call, IsTerm, RisesBy, call_order, nothing, of_others, one, largest_exponent};
 ghost use Rattle.form_term.specs.Terms.{term};
 ghost use Rattle.form_normal.specs.Factors.{HasRoom, IsPlain, is_upto};
 ghost use Rattle.form_normal.specs.Lists.{in_order};
@@ -231,14 +231,16 @@ fn put_among(functions: &mut Vec<Call>, more: &[Call]) -> Result<(), AllocError>
 
 /// Whether a term is 1.
 fn is_number(term: &Term) -> bool
-    ensures { OnTrue result (term.now ≡ one) }
+    ensures is { OnTrue result (term.now ≡ one) }
+    ensures none { result ≡ false → term.now ≡ one → ⊥ }
 {
     term.has_only_symbols() && term.powers().is_empty()
 }
 
 /// The function that a term is, where it is one commuting function.
 fn lone_function(term: &Term) -> Option<&Call>
-    ensures { IfSome result (λ call. term.now ≡ function_factor call.now) }
+    ensures is { IfSome result (λ call. term.now ≡ function_factor call.now) }
+    ensures none { result ≡ None → (call : Call) → term.now ≡ function_factor call → ⊥ }
 {
     match term.functions() {
         [call] if has_no_more(term) => Some(call),
@@ -248,7 +250,8 @@ fn lone_function(term: &Term) -> Option<&Call>
 
 /// Whether a term is a product of commuting functions alone.
 fn has_no_more(term: &Term) -> bool
-    ensures { OnTrue result (term.now ≡ of_others (record nothing { functions = term.now.others.functions })) }
+    ensures is { OnTrue result (term.now ≡ of_others (record nothing { functions = term.now.others.functions })) }
+    ensures none { result ≡ false → term.now ≡ of_others (record nothing { functions = term.now.others.functions }) → ⊥ }
 {
     term.powers().is_empty() && is_plain(term)
 }
@@ -276,7 +279,7 @@ fn is_no_higher(other: &Call, call: &Call) -> bool
     other.cmp(call) != Ordering::Greater
 }
 
-/// Whether a power isn't 1 and can be put behind those of a term.
+/// Whether a power surely isn't 1 and can be put behind those of a term.
 fn goes_last(front: &Term, power: Power) -> bool
     requires { nat_abs power.exponent ≤ largest_exponent }
     ensures { OnTrue result (IsTerm (term (front.now.symbols ++ power ∷ []) front.now.others) × (0 < nat_abs power.exponent) × (list_any is_fixed_of front.now.others.deltas ≡ false)) }

@@ -1,4 +1,4 @@
-ghost use Rattle.std.specs.Prelude.{◌≡◌, ◌&&◌, ◌||◌, not, filter, [], ◌∷◌, ◌++◌, Ok, Err, IfOk};
+ghost use Rattle.std.specs.Prelude.{◌≡◌, ◌&&◌, ◌||◌, false, not, filter, [], ◌∷◌, ◌++◌, Ok, Err, IfOk};
 ghost use Rattle.std.specs.Bool.{OnTrue};
 ghost use Rattle.std.specs.List.{list_any};
 ghost use Rattle.form_base.specs.declared.cause.Cause.{Cause};
@@ -167,7 +167,8 @@ fn product_of_others(alloc: Global, left: &Term, right: &Term) -> Result<Others,
 
 /// Whether a term has powers of symbols and commuting functions alone.
 pub(crate) fn is_plain(term: &Term) -> bool
-    ensures { OnTrue result (IsPlain term.now) }
+    ensures is { OnTrue result (IsPlain term.now) }
+    ensures none { result ≡ false → IsPlain term.now → ⊥ }
 {
     !term.is_imaginary()
         && term.dots().is_empty()

@@ -127,10 +127,7 @@ fn coefficient_in(functions: usize, pieces: &[Piece]) -> Coefficient
             _ => {}
         }
     }
-    Coefficient {
-        numerator: 1,
-        denominator: 1,
-    }
+    Coefficient::new(1, 1)
 }
 
 /// Puts a piece, by the one before it and those that follow.
@@ -152,7 +149,7 @@ fn push_piece(
             push_times(text, innermost(opened))
         }
         Piece::EndOfSum => push_zero(text, before),
-        Piece::EndOfTerm(coefficient) => push_number(text, before, *coefficient),
+        Piece::EndOfTerm(coefficient) => push_number(text, before, coefficient),
         Piece::Sum => push_comma(text, before),
         Piece::Index(index) => {
             push_comma(text, before)?;
@@ -269,13 +266,13 @@ fn push_before_factor(
     match before {
         Piece::Sum => {
             let coefficient = coefficient_in(functions, later);
-            push_first_sign(text, coefficient)?;
-            push_shown_size(text, coefficient)
+            push_first_sign(text, &coefficient)?;
+            push_shown_size(text, &coefficient)
         }
         Piece::EndOfTerm(_) => {
             let coefficient = coefficient_in(functions, later);
-            push_later_sign(text, coefficient)?;
-            push_shown_size(text, coefficient)
+            push_later_sign(text, &coefficient)?;
+            push_shown_size(text, &coefficient)
         }
         _ => text.push('*'),
     }
@@ -285,10 +282,10 @@ fn push_before_factor(
 fn push_number(
     text: &mut String,
     before: &Piece,
-    coefficient: Coefficient,
+    coefficient: &Coefficient,
 ) -> Result<(), AllocError>
     ensures { OnOk result (string_bytes text.new ≡ string_bytes text.old
-        ++ printing.number_behind before.now (printing.fraction_of coefficient)) }
+        ++ printing.number_behind before.now (printing.fraction_of coefficient.now)) }
 {
     match before {
         Piece::Sum => {
@@ -304,11 +301,11 @@ fn push_number(
 }
 
 /// The first term of a sum has a sign where it is negative.
-fn push_first_sign(text: &mut String, coefficient: Coefficient) -> Result<(), AllocError>
+fn push_first_sign(text: &mut String, coefficient: &Coefficient) -> Result<(), AllocError>
     ensures { OnOk result (string_bytes text.new ≡ string_bytes text.old
-        ++ first_sign (printing.fraction_of coefficient)) }
+        ++ first_sign (printing.fraction_of coefficient.now)) }
 {
-    if coefficient.numerator < 0 {
+    if coefficient.numerator() < 0 {
         text.push('-')
     } else {
         Ok(())
@@ -316,11 +313,11 @@ fn push_first_sign(text: &mut String, coefficient: Coefficient) -> Result<(), Al
 }
 
 /// A later term always has a sign.
-fn push_later_sign(text: &mut String, coefficient: Coefficient) -> Result<(), AllocError>
+fn push_later_sign(text: &mut String, coefficient: &Coefficient) -> Result<(), AllocError>
     ensures { OnOk result (string_bytes text.new ≡ string_bytes text.old
-        ++ 32 ∷ later_sign (printing.fraction_of coefficient)) }
+        ++ 32 ∷ later_sign (printing.fraction_of coefficient.now)) }
 {
-    if coefficient.numerator < 0 {
+    if coefficient.numerator() < 0 {
         text.push_str(" - ")
     } else {
         text.push_str(" + ")
@@ -328,9 +325,9 @@ fn push_later_sign(text: &mut String, coefficient: Coefficient) -> Result<(), Al
 }
 
 /// Puts a size before a factor, but for 1.
-fn push_shown_size(text: &mut String, coefficient: Coefficient) -> Result<(), AllocError>
+fn push_shown_size(text: &mut String, coefficient: &Coefficient) -> Result<(), AllocError>
     ensures { OnOk result (string_bytes text.new ≡ string_bytes text.old
-        ++ printing.shown_size (printing.fraction_of coefficient)) }
+        ++ printing.shown_size (printing.fraction_of coefficient.now)) }
 {
     if is_one_inside(coefficient) {
         return Ok(());

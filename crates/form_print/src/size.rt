@@ -28,18 +28,18 @@ pub fn push_size(text: &mut String, coefficient: Frac) -> Result<(), AllocError>
 }
 
 /// Whether a coefficient inside an argument is 1 or -1.
-pub fn is_one_inside(coefficient: Coefficient) -> bool
-    ensures { result ≡ is_of_size_one (fraction_of coefficient) }
+pub fn is_one_inside(coefficient: &Coefficient) -> bool
+    ensures { result ≡ is_of_size_one (fraction_of coefficient.now) }
 {
-    coefficient.numerator.unsigned_abs() == 1 && coefficient.denominator == 1
+    coefficient.numerator().unsigned_abs() == 1 && coefficient.denominator() == 1
 }
 
 /// Puts the size of a coefficient inside an argument.
-pub fn push_size_inside(text: &mut String, coefficient: Coefficient) -> Result<(), AllocError>
-    ensures { OnOk result (string_bytes text.new ≡ string_bytes text.old ++ size_text (fraction_of coefficient)) }
+pub fn push_size_inside(text: &mut String, coefficient: &Coefficient) -> Result<(), AllocError>
+    ensures { OnOk result (string_bytes text.new ≡ string_bytes text.old ++ size_text (fraction_of coefficient.now)) }
 {
-    let size = coefficient.numerator.unsigned_abs();
-    let denominator = coefficient.denominator;
+    let size = coefficient.numerator().unsigned_abs();
+    let denominator = coefficient.denominator();
     if denominator == 1 {
         write!(text, "{size}")
     } else {

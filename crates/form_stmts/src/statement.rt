@@ -13,7 +13,7 @@ use crate::indices::{read_dimension, read_indices, read_switch};
 use crate::keyword::{Keyword, keyword_of};
 use crate::names::{read_names, read_names_or_none};
 use crate::rewrite::read_rewrite;
-use form_ast::{Spelled, Statement};
+use form_ast::{LongExpr, Spelled, Statement};
 use form_grammar::{ReadError, RightSide, Terminal, read_expr};
 use form_lexer::{Mark, Token, TokenKind};
 use std::alloc::Global;
@@ -52,7 +52,7 @@ fn read_definition(alloc: Global, tokens: IntoIter<Token>) -> Result<Statement, 
         return Err(ReadError::BadSyntax);
     }
     match read_expr(alloc, tokens) {
-        Ok(expr) => Ok(Statement::Local(name, expr)),
+        Ok(expr) => Ok(Statement::Local(name, LongExpr::from_expr(alloc, expr)?)),
         Err(error) => Err(error),
     }
 }

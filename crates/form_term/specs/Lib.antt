@@ -1,6 +1,7 @@
 pub mod ArgumentOrder
 pub mod Arguments
 pub mod Calls
+pub mod Digits
 pub mod Factor
 pub mod FactorLaws
 pub mod Factors

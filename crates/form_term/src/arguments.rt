@@ -129,10 +129,7 @@ fn end_of_term(number: Frac) -> Piece
     ensures piece { result ≡ marks.EndOfTerm (record { numerator = number.numerator; denominator = number.denominator }) }
     ensures lowest { IsLowest number }
 {
-    Piece::EndOfTerm(Coefficient {
-        numerator: number.numerator(),
-        denominator: number.denominator(),
-    })
+    Piece::EndOfTerm(Coefficient::new(number.numerator(), number.denominator()))
 }
 
 fn put_expression(pieces: &mut Vec<Piece>, list: &[Monomial]) -> Result<(), AllocError>
@@ -156,11 +153,7 @@ fn put_summand(pieces: &mut Vec<Piece>, item: &Monomial) -> Result<(), AllocErro
 {
     item.laws();
     put_factors(pieces, &item.term)?;
-    let coefficient = Coefficient {
-        numerator: item.coefficient.numerator(),
-        denominator: item.coefficient.denominator(),
-    };
-    put(pieces, Piece::EndOfTerm(coefficient))
+    put(pieces, end_of_term(item.coefficient))
 }
 
 /// Puts the factors of a term last.

@@ -92,10 +92,7 @@ fn compare_all(left: &Term, right: &Term) -> Ordering
 fn end() -> Piece
     ensures { result ≡ end_of_term }
 {
-    Piece::EndOfTerm(Coefficient {
-        numerator: 1,
-        denominator: 1,
-    })
+    Piece::EndOfTerm(Coefficient::new(1, 1))
 }
 
 /// The order of these dot products.

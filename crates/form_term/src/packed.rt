@@ -11,7 +11,7 @@ use std::sync::{Arc, ArcSlice};
 /// A function with its size and its depth as they are kept, its name, and the pieces of its arguments, which copies
 /// share: up to nine pieces and the count of their owners are one block of memory. Fields lie in this order, so it has
 /// 16 bytes.
-#[derive(Debug, Drop)]
+#[derive(Clone, Debug, Drop)]
 pub(crate) enum Packed {
     One(u8, u8, Id, Arc<[Piece; 1]>),
     Two(u8, u8, Id, Arc<[Piece; 2]>),
@@ -125,68 +125,7 @@ impl Packed {
     pub(crate) fn copied(&self) -> Result<Packed, AllocError>
         ensures { IfOk result (IsPacked (size_in self.now) (depth_in self.now) (function_in self.now) (pieces_in self.now)) }
     {
-        match self {
-            Packed::One(size, depth, function, pieces) => Ok(Packed::One(
-                *size,
-                *depth,
-                *function,
-                pieces.clone()?,
-            )),
-            Packed::Two(size, depth, function, pieces) => Ok(Packed::Two(
-                *size,
-                *depth,
-                *function,
-                pieces.clone()?,
-            )),
-            Packed::Three(size, depth, function, pieces) => Ok(Packed::Three(
-                *size,
-                *depth,
-                *function,
-                pieces.clone()?,
-            )),
-            Packed::Four(size, depth, function, pieces) => Ok(Packed::Four(
-                *size,
-                *depth,
-                *function,
-                pieces.clone()?,
-            )),
-            Packed::Five(size, depth, function, pieces) => Ok(Packed::Five(
-                *size,
-                *depth,
-                *function,
-                pieces.clone()?,
-            )),
-            Packed::Six(size, depth, function, pieces) => Ok(Packed::Six(
-                *size,
-                *depth,
-                *function,
-                pieces.clone()?,
-            )),
-            Packed::Seven(size, depth, function, pieces) => Ok(Packed::Seven(
-                *size,
-                *depth,
-                *function,
-                pieces.clone()?,
-            )),
-            Packed::Eight(size, depth, function, pieces) => Ok(Packed::Eight(
-                *size,
-                *depth,
-                *function,
-                pieces.clone()?,
-            )),
-            Packed::Nine(size, depth, function, pieces) => Ok(Packed::Nine(
-                *size,
-                *depth,
-                *function,
-                pieces.clone()?,
-            )),
-            Packed::Many(size, depth, function, pieces) => Ok(Packed::Many(
-                *size,
-                *depth,
-                *function,
-                pieces.clone()?,
-            )),
-        }
+        self.clone()
     }
 }
 

@@ -1,4 +1,6 @@
-use crate::{Component, Delta, DotPower, Index, Power};
+ghost use Rattle.std.specs.Prelude.{◌≡◌};
+
+use crate::{Component, Delta, DotPower, Index, Integer, Natural, Power};
 use form_base::Id;
 use std::cmp::Reverse;
 use std::hash::{Hash, Hasher};
@@ -6,8 +8,31 @@ use std::hash::{Hash, Hasher};
 /// The coefficient of a term inside an argument, in lowest terms.
 #[derive(Clone, Copy, Debug, PartialEq, Eq, PartialOrd, Ord)]
 pub struct Coefficient {
-    pub numerator: i128,
-    pub denominator: u128,
+    pub numerator: Integer,
+    pub denominator: Natural,
+}
+
+impl Coefficient {
+    pub fn new(numerator: i128, denominator: u128) -> Coefficient
+        ensures { result ≡ record { numerator = numerator; denominator = denominator } }
+    {
+        Coefficient {
+            numerator: Integer::new(numerator),
+            denominator: Natural::new(denominator),
+        }
+    }
+
+    pub fn numerator(&self) -> i128
+        ensures { result ≡ self.now.numerator }
+    {
+        self.numerator.get()
+    }
+
+    pub fn denominator(&self) -> u128
+        ensures { result ≡ self.now.denominator }
+    {
+        self.denominator.get()
+    }
 }
 
 impl Hash for Coefficient {
@@ -19,9 +44,9 @@ impl Hash for Coefficient {
     ghost respects_eq = { coefficients_alike fed_coefficient };
 
     fn hash<H: Hasher>(&self, state: &mut H) {
-        state.write_i128(self.numerator);
-        if self.denominator != 1 {
-            state.write_u128(self.denominator);
+        state.write_i128(self.numerator());
+        if self.denominator() != 1 {
+            state.write_u128(self.denominator());
         }
     }
 }
@@ -63,6 +88,8 @@ pub enum Piece {
     /// An argument that is an expression begins; its terms follow.
     Sum,
 }
+
+const _: () = prove!(size_of::<Piece>() == 36);
 
 impl Hash for Piece {
     ghost use Rattle.form_term.specs.FedPieces.{fed_piece};
@@ -107,7 +134,6 @@ impl Hash for Piece {
 }
 
 impl Piece {
-    ghost use Rattle.std.specs.Prelude.{◌≡◌};
     ghost use Rattle.std.specs.Prelude.{◌<◌, ◌^◌};
     ghost use Rattle.form_term.specs.Arguments.{level_behind};
     ghost use Rattle.form_term.specs.Pieces.{piece_of_power, piece_of_dot, counts};

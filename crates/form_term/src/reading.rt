@@ -89,7 +89,7 @@ fn number(coefficient: Coefficient) -> Frac
     requires { IsLowest (record { numerator = coefficient.numerator; denominator = coefficient.denominator }) }
     ensures { result ≡ record { numerator = coefficient.numerator; denominator = coefficient.denominator } }
 {
-    fraction(coefficient.numerator, coefficient.denominator)
+    fraction(coefficient.numerator(), coefficient.denominator())
 }
 
 /// Whether a sum begins here.
@@ -204,7 +204,7 @@ impl Begun {
     {
         let Begun { powers, others } = self;
         Ok(Monomial {
-            coefficient: fraction(coefficient.numerator, coefficient.denominator),
+            coefficient: fraction(coefficient.numerator(), coefficient.denominator()),
             term: Term::from_factors(alloc, powers, others)?,
         })
     }

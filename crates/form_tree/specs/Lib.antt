@@ -1,4 +1,3 @@
-pub mod Digits
 pub mod Pattern
 pub mod Patterns
 pub mod Tree

@@ -3,10 +3,9 @@
 #![tactic(auto)]
 
 pub mod laws;
-mod natural;
 mod pattern;
 mod tree;
 
-pub use natural::Natural;
+pub use form_term::Natural;
 pub use pattern::{IndexName, Name, Pattern, PatternPiece, Sets, Sort};
 pub use tree::{Base, Exponent, Link, Piece, Tree};

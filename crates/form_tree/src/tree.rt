@@ -1,8 +1,7 @@
 ghost use Rattle.std.specs.Prelude.{◌≡◌};
 
-use crate::Natural;
 use form_base::Id;
-use form_term::{Component, Index};
+use form_term::{Component, Index, Natural};
 use std::marker::Model;
 
 /// How a factor stands to what is before it.
@@ -37,7 +36,8 @@ pub struct Exponent {
     pub symbol: Id,
 }
 
-/// A piece of a right side. A factor that is divided by has a negative power.
+/// A piece of a right side. A factor that is divided by has a negative power. It has 32 bytes, since a right side may
+/// have millions.
 #[derive(Clone, Copy, Debug, PartialEq, Eq)]
 pub enum Piece {
     /// A whole number to a power.
@@ -129,6 +129,8 @@ pub enum Piece {
     /// A sum in parentheses ends, to a power that a wildcard stands for.
     CloseRaised(Exponent),
 }
+
+const _: () = prove!(size_of::<Piece>() == 32);
 
 /// A right side, flat, so that it is walked and dropped without recursion however deep it is: in a clause the list of its
 /// pieces in the order of the text.

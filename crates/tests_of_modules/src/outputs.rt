@@ -253,7 +253,7 @@ fn bound_to(bindings: &Bindings, wildcard: u32) -> Option<i128> {
 /// The number that an argument is.
 fn number_in(pieces: &[form_term::Piece]) -> Option<i128> {
     match pieces {
-        [_, form_term::Piece::EndOfTerm(number), _] => Some(number.numerator),
+        [_, form_term::Piece::EndOfTerm(number), _] => Some(number.numerator()),
         _ => None,
     }
 }

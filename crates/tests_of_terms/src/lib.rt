@@ -1,6 +1,9 @@
-//! Tests of the calls on terms: fractions, terms, products, sums, matches, what is taken out, and lists of right sides.
+//! Tests of the calls on terms: fractions, coefficients inside arguments, terms, products, sums, matches, what is taken
+//! out, and lists of right sides.
 #![tactic(auto)]
 
+#[cfg(test)]
+mod coefficients;
 #[cfg(test)]
 mod fractions;
 #[cfg(test)]

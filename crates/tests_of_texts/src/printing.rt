@@ -82,6 +82,11 @@ fn function(alloc: Global, id: u32, argument: Monomial) -> Result<Term, AllocErr
     let arguments = Arguments::new(alloc)
         .with_expression(&[argument])?
         .with_index(Index::Dummy(1))?;
+    of_arguments(alloc, id, arguments)
+}
+
+/// A function of these arguments.
+fn of_arguments(alloc: Global, id: u32, arguments: Arguments) -> Result<Term, AllocError> {
     let call = arguments.into_call(Id::new(id))?;
     if call.size() > 4096 || call.depth() > 63 {
         return Err(AllocError);
@@ -108,5 +113,40 @@ fn arguments_print_inside_parentheses(rt: HostRuntime) -> Result<(), Fail> {
         .ok()
             == Some(true)
     );
+    Ok(())
+}
+
+/// The function f of an expression of one term, or of none where that is 0.
+fn of_expression(alloc: Global, argument: Monomial) -> Result<Monomial, AllocError> {
+    let none = Arguments::new(alloc);
+    let arguments = if argument.coefficient.is_zero() {
+        none.with_expression(&[])?
+    } else {
+        none.with_expression(&[argument])?
+    };
+    Ok(Monomial {
+        coefficient: Frac::one(),
+        term: of_arguments(alloc, 2, arguments)?,
+    })
+}
+
+/// Whether the function f of this expression prints so.
+fn prints_inside(alloc: Global, argument: Monomial, text: &str) -> Result<bool, SinkErr> {
+    let terms = [of_expression(alloc, argument)?];
+    prints(alloc, &terms, text)
+}
+
+#[test]
+fn long_numbers_print_inside_parentheses(rt: HostRuntime) -> Result<(), Fail> {
+    let alloc = rt.alloc();
+    let long = term(alloc, -18_446_744_073_709_551_617, 1 << 32, 0, 3)?;
+    let text = "\n   F =\n      f(-18446744073709551617/4294967296*x^3);\n\n";
+    assert!(rt; prints_inside(alloc, long, text).ok() == Some(true));
+    let largest = term(alloc, i128::MAX, 1 << 64, 0, 0)?;
+    let text =
+        "\n   F =\n      f(170141183460469231731687303715884105727/18446744073709551616);\n\n";
+    assert!(rt; prints_inside(alloc, largest, text).ok() == Some(true));
+    let zero = term(alloc, 0, 1, 0, 0)?;
+    assert!(rt; prints_inside(alloc, zero, "\n   F =\n      f(0);\n\n").ok() == Some(true));
     Ok(())
 }

@@ -2,7 +2,9 @@
 ghost use Rattle.std.specs.Prelude.{◌≡◌, IfOk};
 ghost use Rattle.form_ast.specs.Lawful.{AreLawful, IsLawfulStatement, AreLawfulModules};
 
-use form_ast::{Declared, Expr, Link, Module, NameList, Named, Piece, Placed, Spelled, Statement};
+use form_ast::{
+    Declared, Expr, Link, LongExpr, Module, NameList, Named, Piece, Placed, Spelled, Statement,
+};
 use form_base::{Name, Spot};
 use form_check::{CheckError, check};
 use std::alloc::{AllocError, Global};
@@ -23,7 +25,7 @@ fn list_of(alloc: Global, name: &str, line: u32) -> Result<NameList, AllocError>
 }
 
 /// The right side `x(x)`, where this is the name before the parentheses.
-fn right_side(alloc: Global, name: &str) -> Result<Expr, AllocError>
+fn right_side(alloc: Global, name: &str) -> Result<LongExpr, AllocError>
     ensures { IfOk result AreLawful }
 {
     let mut pieces = Vec::new(alloc);
@@ -32,7 +34,7 @@ fn right_side(alloc: Global, name: &str) -> Result<Expr, AllocError>
     pieces.push(Piece::Call(Link::First, before))?;
     pieces.push(Piece::Name(Link::First, inner))?;
     pieces.push(Piece::EndOfCall)?;
-    Ok(Expr::from_vec(pieces))
+    LongExpr::from_expr(alloc, Expr::from_vec(pieces))
 }
 
 fn placed(line: u32, statement: Statement) -> Placed
@@ -72,8 +74,8 @@ fn modules(
 }
 
 /// The line at which the program is refused, 0 where it isn't.
-fn refused_at(alloc: Global, modules: &[Module]) -> Result<u32, AllocError>
-    requires { AreLawfulModules modules.now }
+fn refused_at(alloc: Global, modules: Vec<Module>) -> Result<u32, AllocError>
+    requires { AreLawfulModules modules.items }
 {
     match check(alloc, modules) {
         Ok(program) => Ok(if program.names().len() == 2 && program.modules().len() == 1 {
@@ -90,17 +92,17 @@ fn refused_at(alloc: Global, modules: &[Module]) -> Result<u32, AllocError>
 fn statements_are_checked_in_order(rt: HostRuntime) -> Result<(), Fail> {
     let alloc = rt.alloc();
     let all = modules(alloc, Declared::Vectors, "x", all_printed(alloc))?;
-    assert!(rt; refused_at(alloc, &all)? == 0);
+    assert!(rt; refused_at(alloc, all)? == 0);
     let all = modules(alloc, Declared::CFunctions, "x", all_printed(alloc))?;
-    assert!(rt; refused_at(alloc, &all)? == 0);
+    assert!(rt; refused_at(alloc, all)? == 0);
     let wrong = modules(alloc, Declared::Symbols, "x", all_printed(alloc))?;
-    assert!(rt; refused_at(alloc, &wrong)? == 2);
+    assert!(rt; refused_at(alloc, wrong)? == 2);
     let wrong = modules(
         alloc,
         Declared::Functions,
         "x",
         Statement::Print(list_of(alloc, "x", 3)?),
     )?;
-    assert!(rt; refused_at(alloc, &wrong)? == 3);
+    assert!(rt; refused_at(alloc, wrong)? == 3);
     Ok(())
 }

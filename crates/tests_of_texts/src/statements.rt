@@ -35,7 +35,7 @@ fn letter(statement: &Statement) -> (char, usize) {
         Statement::Statistics => ('o', 0),
         Statement::Drop(names) => ('d', names.as_slice().len()),
         Statement::Skip(names) => ('k', names.as_slice().len()),
-        Statement::Local(_, expr) => ('l', expr.as_slice().len()),
+        Statement::Local(_, expr) => ('l', expr.len()),
         Statement::Rewrite(rewrite) => (rewrite_letter(rewrite), rewrite.pattern.as_slice().len()),
         Statement::Print(names) => ('p', names.as_slice().len()),
     }

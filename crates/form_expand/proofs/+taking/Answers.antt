@@ -6,6 +6,7 @@ use Rattle.form_term.specs.Term.{index, vector, pieces_of_argument}
 use Rattle.form_expand.specs.Factors.{factor_left}
 use Rattle.form_expand.specs.Left.{Level, times_by}
 use Rattle.form_expand.specs.Listing.{nothing, refusal, limited, followed, signed}
+use Rattle.form_expand.specs.Moving.{Shortens}
 use Rattle.form_expand.specs.Next.{Takes, Goes, progress_of}
 use Rattle.form_expand.specs.Products.{level_of, product_left}
 use Rattle.form_expand.specs.Calls.{called}
@@ -17,6 +18,7 @@ use Rattle.form_expand.specs.Streams.{stream_left, stream_before}
 use Rattle.form_expand.specs.Inner.{Inner}
 use Rattle.form_expand.specs.Parentheses.{whole_of}
 use Rattle.form_expand.specs.Walks.{all_of}
+use Rattle.form_expand.proofs.Moved.{shortens_made}
 use Rattle.form_expand.proofs.Keeping.{left_made, all_kept, one_kept, kept_past}
 use Rattle.form_expand.proofs.Products.{levels_close, levels_give, levels_open, levels_refuse, levels_done, levels_same}
 use Rattle.form_expand.proofs.Streamed.{gives_from, stream_ungiven, stream_on, stream_done}
@@ -138,7 +140,7 @@ stream::Stream::next-loop-preserved t c =
     let s = c.loop.self in
     let rest = list_of_pieces s.limit s.stored.now s.rest.now in
     let gave = rw c.in_default.is at c.in_ok-term.ensures in
-    c.in_ok-read.ensures
+    c.in_ok-read.ensures.list
     ∙ ap stream_left (c.in_ok-term-2.ensures.none (ap Ok c.in_default-2.is))
     ∙ stream_on s.limit s.given s.is_minus rest (product_left s.limit c.next.new.self) gave.1
     ∙ sym (stream_on s.limit s.given s.is_minus rest (product_left s.limit s.product) gave.0)
@@ -216,6 +218,19 @@ parenthesis::Parenthesis::step_times-returns-clause-next t c =
       | parenthesis::Parenthesis::step_times-else-keeps-2 w ↦ ap (λ (i : Inner). i.left) w.self-is
     ] in
     rw c.of.ensures (subst (λ l. Goes (Ok (progress_of c.in_ok-made.made)) (times_by left c.args.self.now.left) (times_by left l)) (sym then) here)
+
+pub parenthesis::Parenthesis::step_times-returns-clause-shorter : goal.parenthesis::Parenthesis::step_times-returns-clause-shorter
+parenthesis::Parenthesis::step_times-returns-clause-shorter t c =
+    let inside = c.self.inside in
+    let made = ap (λ (i : Inner). i.left) (sym c.self.view_is) ∙ left_made inside.mode inside.place inside.kept.items (stream_left inside.stream) (sym c.is_kept.ensures ∙ c.if-is_kept.false) in
+    let new = stream_left c.next.new.self in
+    let gave = rw c.in-Some-2.is at c.in_ok-term.ensures in
+    let here = shortens_made c.in-Some-2.term c.in_ok-made.made c.args.self.now.left new (made ∙ gave) in
+    let then : c.if-keeps-2.self.left ≡ new = elim c.if-keeps-2.branch [
+      | parenthesis::Parenthesis::step_times-then-keeps-2+in_ok-push w ↦ ap (λ (i : Inner). i.left) w.self-is
+      | parenthesis::Parenthesis::step_times-else-keeps-2 w ↦ ap (λ (i : Inner). i.left) w.self-is
+    ] in
+    rw c.of.ensures (subst (λ l. Shortens (Ok (progress_of c.in_ok-made.made)) c.args.self.now.left l) (sym then) here)
 
 pub function::written_out-loop-rest-init : goal.function::written_out-loop-rest-init
 function::written_out-loop-rest-init t c = record { now = []; written = c.new-arguments.ensures; read = refl }

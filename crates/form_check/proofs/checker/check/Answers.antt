@@ -1,14 +1,32 @@
-use Rattle.std.proofs.Common.{◌≡◌, Ok, arith}
+use Rattle.std.proofs.Common.{◌≡◌, ◌∙◌, [], ◌∷◌, Ok, ap, arith, length, All}
+use Rattle.std.proofs.lemmas.List.{nil_from_length}
+use Rattle.std.proofs.lemmas.List.Elements.{All-rest}
+use Rattle.std.specs.Vec.Iter.{into_iter_items}
+use Rattle.form_ast.specs.Lawful.{IsLawfulStatement}
 use Rattle.form_check.specs.Checker.{state_of}
 use Rattle.form_check.specs.Checking.{start, module_checked}
 use Rattle.form_check.specs.Refusal.{each}
-use Rattle.form_check.proofs.Loops.{each-end}
+use Rattle.form_check.proofs.Loops.{each-first}
 use Rattle.form_check.proofs.Sound.{sound}
 use Rattle.form_check.proofs.checker.check.Goals as goal
 
+pub loop-module-preserved : goal.loop-module-preserved
+loop-module-preserved c =
+    let left = into_iter_items c.loop-module.module-iterator in
+    let rest = into_iter_items c.next.new.self in
+    let next : left ≡ c.in-Some.module ∷ rest = c.in-Some.ensures.steps.0 in
+    record {
+      consistent = c.in_ok-module.ensures.consistent;
+      lawful = All-rest (λ statements. All (λ placed. IsLawfulStatement placed.statement) statements) c.in-Some.module rest left next c.loop-module.invariant.lawful;
+      current = omega (arith, c.in_ok-module.ensures.current, c.loop-module.invariant.current, ap length next);
+      checked = each-first module_checked (state_of c.loop-module.checker) (state_of c.module.new.self) c.in-Some.module rest left (each module_checked start c.args.modules.items) next c.loop-module.invariant.checked c.in_ok-module.ensures.checked;
+    }
+
 pub returns-clause-sound : goal.returns-clause-sound
 returns-clause-sound c =
-    let modules = c.args.modules.now in
+    let modules = c.args.modules.items in
     let state = state_of c.loop-module.checker in
-    let all : each module_checked start modules ≡ Ok state = each-end module_checked state modules c.loop-module.module-index (each module_checked start modules) (omega arith) c.loop-module.invariant.checked in
+    let left = into_iter_items c.loop-module.module-iterator in
+    let none : left ≡ [] = nil_from_length left (omega (arith, c.in-None.ensures.steps)) in
+    let all : each module_checked start modules ≡ Ok state = c.loop-module.invariant.checked ∙ ap (each module_checked state) none in
     rw c.new.ensures (sound c.one_tree.ensures.found modules state c.requires all)

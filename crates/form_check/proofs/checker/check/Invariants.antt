@@ -1,4 +1,6 @@
-use Rattle.std.proofs.Common.{◌≡◌, ◌+◌, drop}
+use Rattle.std.proofs.Common.{◌≡◌, ◌+◌, ◌≤◌, length}
+use Rattle.std.specs.Vec.Iter.{into_iter_items}
+use Rattle.form_ast.specs.Lawful.{AreLawfulModules}
 use Rattle.form_check.specs.Checker.{state_of, IsConsistent}
 use Rattle.form_check.specs.Checking.{start, module_checked}
 use Rattle.form_check.specs.Refusal.{each}
@@ -8,6 +10,7 @@ use Rattle.form_check.proofs.checker.check.Given as goal
 abbrev pub invariant-loop-module : goal.invariant-loop-module
 invariant-loop-module l = record {
   consistent : IsConsistent l.checker;
-  current : l.checker.standing.current ≡ l.module-index + 1;
-  checked : each module_checked start l.modules ≡ each module_checked (state_of l.checker) (drop l.module-index l.modules);
+  lawful : AreLawfulModules (into_iter_items l.module-iterator);
+  current : l.checker.standing.current + length (into_iter_items l.module-iterator) ≤ length l.fn.modules.items + 1;
+  checked : each module_checked start l.fn.modules.items ≡ each module_checked (state_of l.checker) (into_iter_items l.module-iterator);
 }

@@ -13,7 +13,7 @@ returns-in_err-walk c =
     let names = c.args.names.now in
     let stands = stands_in c.args.standing.now in
     let known = c.args.known.now in
-    let list = c.args.list.now in
+    let list = c.args.long in
     let same = whole-walked names stands known c.one_tree.ensures.found list c.requires in
     rw (p.1, p.2) (made-refused (right_side names stands known list) (walked names stands known (at [] Sum 0) list) c.in_err-walk.field-0.0 same c.in_err-walk.ensures)
 
@@ -22,6 +22,6 @@ returns c =
     let names = c.args.names.now in
     let stands = stands_in c.args.standing.now in
     let known = c.args.known.now in
-    let list = c.args.list.now in
+    let list = c.args.long in
     let same = whole-walked names stands known c.one_tree.ensures.found list c.requires in
     rw (c.from_vec.ensures, c.into_pieces.ensures) (made-given (right_side names stands known list) (walked names stands known (at [] Sum 0) list) (walk_of c.in_ok-walk.walk) same c.in_ok-walk.ensures)

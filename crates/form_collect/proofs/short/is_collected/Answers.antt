@@ -9,4 +9,4 @@ pub returns-in-len2 : goal.returns-in-len2
 returns-in-len2 c =
     let one = c.one-item-then-list-lt3.result in
     let two = c.two-item.result in
-    pair_collected c.args.list.now one two c.are_ordered.result (of_two c.args.list.now one two c.in-len2.len_at_least c.in-len2.len_below c.one-item-then-list-lt3.is c.two-item.is) c.are_ordered.ensures
+    pair_collected c.args.list.now one two c.are_ordered.result (of_two c.args.list.now one two c.in-len2.len_at_least c.in-len2.len_below c.one-item-then-list-lt3.is c.two-item.is) c.are_ordered.ensures.are

@@ -7,7 +7,7 @@ pub returns-in-Number : goal.returns-in-Number
 returns-in-Number c =
     let fits : SFits w32 c.in-Number.power = search rules in
     number_piece c.args.names.now c.args.piece.now c.in-Number.link c.linked.result c.number_alone.result c.in-Number.value c.in-Number.power c.in-Number.is c.linked.ensures
-    (rw (c.get.ensures, to_z-of_z w32 c.in-Number.power fits) at c.number_alone.ensures)
+    (rw (c.get.ensures, to_z-of_z w32 c.in-Number.power fits) at c.number_alone.ensures.some)
 
 pub returns-in-Wild : goal.returns-in-Wild
 returns-in-Wild c =

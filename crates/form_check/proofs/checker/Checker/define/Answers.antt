@@ -17,9 +17,9 @@ returns-in_err-tree-clause-checked c =
     let spelled = c.args.spelled.now in
     let new : is_defined_again state (lookup state.names spelled.name) ≡ false = rw (← c.as_str.ensures) (sym c.has_defined.ensures ∙ c.if-has_defined.false) in
     let same : stands_in c.args.self.now.standing ≡ stands state.earlier = λ j e. c.requires.consistent.marks.standing e j in
-    let refuses : IsRefused c.in_err-tree.field-0.0 (right_side c.declare.new.names (stands state.earlier) c.nothing-known.result c.args.right.now) = rw (← same, ← c.as_slice.ensures) c.in_err-tree.ensures in
+    let refuses : IsRefused c.in_err-tree.field-0.0 (right_side c.declare.new.names (stands state.earlier) c.nothing-known.result c.args.right) = rw (← same) c.in_err-tree.ensures in
     let p = err_from_is_err_and c.from_residual-in_err-tree.result c.from_residual-in_err-tree.ensures.1 in
-    rw (p.1, p.2) (definition-refused state spelled c.args.right.now c.in_ok-id.id c.declare.new.names new c.in_ok-id.ensures.declared c.nothing-known.result c.nothing-known.ensures c.in_err-tree.field-0.0 refuses)
+    rw (p.1, p.2) (definition-refused state spelled c.args.right c.in_ok-id.id c.declare.new.names new c.in_ok-id.ensures.declared c.nothing-known.result c.nothing-known.ensures c.in_err-tree.field-0.0 refuses)
 
 pub returns-clause-checked : goal.returns-clause-checked
 returns-clause-checked c =
@@ -27,6 +27,6 @@ returns-clause-checked c =
     let spelled = c.args.spelled.now in
     let new : is_defined_again state (lookup state.names spelled.name) ≡ false = rw (← c.as_str.ensures) (sym c.has_defined.ensures ∙ c.if-has_defined.false) in
     let same : stands_in c.args.self.now.standing ≡ stands state.earlier = λ j e. c.requires.consistent.marks.standing e j in
-    let gives : right_side c.declare.new.names (stands state.earlier) c.nothing-known.result c.args.right.now ≡ Ok c.in_ok-tree.tree = rw (← same, ← c.as_slice.ensures) c.in_ok-tree.ensures in
-    let all = definition-Ok state spelled c.args.right.now c.in_ok-id.id c.declare.new.names new c.in_ok-id.ensures.declared c.nothing-known.result c.nothing-known.ensures c.in_ok-tree.tree gives in
+    let gives : right_side c.declare.new.names (stands state.earlier) c.nothing-known.result c.args.right ≡ Ok c.in_ok-tree.tree = rw (← same) c.in_ok-tree.ensures in
+    let all = definition-Ok state spelled c.args.right c.in_ok-id.id c.declare.new.names new c.in_ok-id.ensures.declared c.nothing-known.result c.nothing-known.ensures c.in_ok-tree.tree gives in
     Gives-kept c.keep.result (state_of c.keep.new.self) (with_statement (record state { names = c.declare.new.names }) (Local c.in_ok-id.id c.in_ok-tree.tree)) _ all c.keep.ensures.kept c.keep.ensures.memory

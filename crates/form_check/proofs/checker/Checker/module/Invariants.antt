@@ -1,4 +1,6 @@
-use Rattle.std.proofs.Common.{◌≡◌, drop}
+use Rattle.std.proofs.Common.{◌≡◌, All}
+use Rattle.std.specs.Vec.Iter.{into_iter_items}
+use Rattle.form_ast.specs.Lawful.{IsLawfulStatement}
 use Rattle.form_check.specs.Checker.{state_of, IsConsistent}
 use Rattle.form_check.specs.Checking.{statement}
 use Rattle.form_check.specs.Refusal.{each}
@@ -8,6 +10,7 @@ use Rattle.form_check.proofs.checker.Checker.module.Given as goal
 abbrev pub invariant-loop-placed : goal.invariant-loop-placed
 invariant-loop-placed l = record {
   consistent : IsConsistent l.self;
+  lawful : All (λ placed. IsLawfulStatement placed.statement) (into_iter_items l.placed-iterator);
   current : l.self.standing.current ≡ l.fn.self.standing.current;
-  checked : each statement (state_of l.fn.self) l.written ≡ each statement (state_of l.self) (drop l.placed-index l.placed-items);
+  checked : each statement (state_of l.fn.self) l.fn.written ≡ each statement (state_of l.self) (into_iter_items l.placed-iterator);
 }

@@ -4,6 +4,7 @@ use Rattle.std.proofs.lemmas.List.{nil_from_length}
 use Rattle.form_expand.specs.Kept.{listing}
 use Rattle.form_expand.specs.Listing.{limited}
 use Rattle.form_expand.specs.declared.walk.Walk.{Walk}
+use Rattle.form_expand.proofs.Called.{some_from}
 use Rattle.form_expand.proofs.NumberPowers.{none_powered}
 use Rattle.form_expand.proofs.factor.Factor.powered.Goals as goal
 
@@ -15,3 +16,6 @@ returns-then-is_empty-clause-list c =
 
 pub returns-clause-once : goal.returns-clause-once
 returns-clause-once c = λ t is room. absurd (omega (arith, room, c.in_ok-made.ensures.none (ap Ok c.in_default.is) t is))
+
+pub returns-clause-none : goal.returns-clause-none
+returns-clause-none c = λ none. absurd (omega (arith, some_from c.is_empty.result c.terms.result.now c.is_empty.ensures c.if-is_empty.false, ap length (c.terms.ensures ∙ none)))

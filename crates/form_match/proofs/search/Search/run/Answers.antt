@@ -24,12 +24,12 @@ pub returns-in_default-advanced : goal.returns-in_default-advanced
 returns-in_default-advanced c =
     let long : c.len.result ≡ length c.loop.self.steps.items = omega (arith, c.len.ensures, c.loop.self.steps.ok.0) in
     subst (λ (o : Option ℕ). GoesOn o (table_of c.args.outermost.now.fixed.now) c.args.pieces.now (outer c.args.outermost.now.term.now c.args.outermost.now.cuts.now c.args.outermost.now.is_exact) c.advance.new.self.steps.items c.advance.new.self.bindings) c.in_default-advanced.is
-    (c.in_ok-advanced.ensures c.args.pieces.now c.loop.invariant
+    (c.in_ok-advanced.ensures.goes_on c.args.pieces.now c.loop.invariant
     (some_at c.piece_at.result c.args.pieces.now c.len.result (length c.loop.self.steps.items) c.in-Some.piece c.piece_at.ensures c.in-Some.is long))
 
 pub loop-preserved : goal.loop-preserved
 loop-preserved c =
     let long : c.len.result ≡ length c.loop.self.steps.items = omega (arith, c.len.ensures, c.loop.self.steps.ok.0) in
     subst (λ (o : Option ℕ). GoesOn o (table_of c.args.outermost.now.fixed.now) c.args.pieces.now (outer c.args.outermost.now.term.now c.args.outermost.now.cuts.now c.args.outermost.now.is_exact) c.advance.new.self.steps.items c.advance.new.self.bindings) c.in-Some-advanced.is
-    (c.in_ok-advanced.ensures c.args.pieces.now c.loop.invariant
+    (c.in_ok-advanced.ensures.goes_on c.args.pieces.now c.loop.invariant
     (some_at c.piece_at.result c.args.pieces.now c.len.result (length c.loop.self.steps.items) c.in-Some.piece c.piece_at.ensures c.in-Some.is long))

@@ -1,5 +1,7 @@
 ghost use Rattle.std.specs.Prelude.{◌≡◌, ◌==◌};
 
+use std::cmp::Ordering;
+use std::hash::{Hash, Hasher};
 use std::marker::Model;
 
 /// A whole number below 2^128, kept as its digits of 32 bits, the lowest first, so that what holds it needs no place of
@@ -14,7 +16,7 @@ pub struct Natural {
 
 impl Model for Natural {
     ghost use Rattle.std.specs.Prelude.{ℕ, ◌+◌, ◌*◌, ◌/◌, ◌%◌, ◌<◌, ◌^◌};
-    ghost use Rattle.form_tree.specs.Digits.{of_digits, digits_again};
+    ghost use Rattle.form_term.specs.Digits.{of_digits, digits_again};
 
     ghost Value = { ℕ };
 
@@ -77,4 +79,49 @@ impl Eq for Natural {
     ghost use Rattle.std.specs.Cmp.Rules.{comparing};
 
     ghost laws = { Prim.search (comparing, rules) };
+}
+
+impl PartialOrd for Natural {
+    ghost use Rattle.std.specs.Prelude.{Some};
+    ghost use Rattle.std.specs.Ordering.{nat_cmp};
+    ghost use Rattle.std.proofs.Common.{rules};
+    ghost use Rattle.std.specs.Cmp.Rules.{comparing};
+
+    ghost partial_cmp = { λ m n. Some (nat_cmp m n) };
+
+    ghost laws = { Prim.search (comparing, rules) };
+
+    fn partial_cmp(&self, other: &Natural) -> Option<Ordering> {
+        Some(self.cmp(other))
+    }
+}
+
+impl Ord for Natural {
+    ghost use Rattle.std.specs.Ordering.{nat_cmp};
+    ghost use Rattle.std.proofs.Common.{rules};
+
+    ghost cmp = { nat_cmp };
+
+    ghost total = { Prim.search rules };
+
+    ghost matches_partial_cmp = { Prim.search rules };
+
+    ghost matches_eq = { Prim.search rules };
+
+    fn cmp(&self, other: &Natural) -> Ordering {
+        self.get().cmp(&other.get())
+    }
+}
+
+impl Hash for Natural {
+    ghost use Rattle.std.specs.Hash as fed;
+    ghost use Rattle.std.proofs.lemmas.Bool.Decides.{Decides-eqb};
+
+    ghost hash_input = { fed.u128 };
+
+    ghost respects_eq = { (fed.same_Alike fed.u128 Decides-eqb).fed };
+
+    fn hash<H: Hasher>(&self, state: &mut H) {
+        state.write_u128(self.get());
+    }
 }

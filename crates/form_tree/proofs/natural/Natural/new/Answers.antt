@@ -1,5 +1,0 @@
-use Rattle.form_tree.specs.Digits.{number_again}
-use Rattle.form_tree.proofs.natural.Natural.new.Goals as goal
-
-pub returns : goal.returns
-returns c = number_again c.args.value
