@@ -1,5 +1,5 @@
 //! What the pieces say that come next in a right side.
-ghost use Rattle.std.specs.Prelude.{◌≡◌, None, Ok, IfOk, IfSome, is_some};
+ghost use Rattle.std.specs.Prelude.{◌≡◌, ℕ, None, Ok, IfOk, IfSome, is_some};
 ghost use Rattle.form_check.specs.Refusal.{error_of};
 ghost use Rattle.form_check.specs.RightSide.{lone as lone_of, wrong, spelled_of};
 ghost use Rattle.form_check.specs.RightSide as definition;
@@ -42,7 +42,8 @@ pub fn power_at(rest: &[form_ast::Piece]) -> Option<Power>
 /// its size.
 #[inline(always)]
 pub fn plain_power(rest: &[form_ast::Piece], most: u32) -> Option<(bool, u32)>
-    ensures { IfSome result (λ power. (walking.name_power_at rest.now ≡ None) × (definition.has_minus (walking.power_at rest.now) ≡ power.0) × (definition.size_within most (walking.power_at rest.now) ≡ Ok power.1)) }
+    ensures some { IfSome result (λ power. (walking.name_power_at rest.now ≡ None) × (definition.has_minus (walking.power_at rest.now) ≡ power.0) × (definition.size_within most (walking.power_at rest.now) ≡ Ok power.1)) }
+    ensures none { result ≡ None → walking.name_power_at rest.now ≡ None → (size : ℕ) → definition.size_within most (walking.power_at rest.now) ≡ Ok size → ⊥ }
 {
     match rest {
         [form_ast::Piece::Raised(_, sign, number), ..] => {

@@ -2,6 +2,7 @@ pub mod Alones
 pub mod Behind
 pub mod Called
 pub mod Draining
+mod Ending
 pub mod Inverses
 mod Keeping
 pub mod Levels
@@ -13,6 +14,7 @@ mod LoneFunctions
 mod Lones
 pub mod Lookups
 mod Moved
+mod Nearing
 pub mod NumberLists
 pub mod NumberPowers
 pub mod NumberSums

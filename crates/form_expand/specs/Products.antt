@@ -1,5 +1,5 @@
 -- What is left of a product.
-use Rattle.std.specs.Prelude.{ℕ, List, ◌++◌, map, option_to_list, Option}
+use Rattle.std.specs.Prelude.{ℕ, List, ◌++◌, length, map, option_to_list, Option}
 use Rattle.form_term.specs.declared.monomial.Monomial.{Monomial}
 use Rattle.form_expand.specs.declared.product.Level as levels
 use Rattle.form_expand.specs.declared.product.Queued.{Queued}
@@ -7,6 +7,7 @@ use Rattle.form_expand.specs.declared.product.Product.{Product}
 use Rattle.form_expand.specs.Factors.{factor_whole, factor_left}
 use Rattle.form_expand.specs.Left.{Level, Waiting, row_left, times_by}
 use Rattle.form_expand.specs.Listing.{Listing}
+use Rattle.form_expand.specs.Moving.{distance}
 
 abbrev pub level_of : ℕ → levels.Level → Level
 level_of max l = record { count = l.count; list = factor_whole max l.factor; opened = times_by l.left (factor_left max l.factor) }
@@ -28,3 +29,7 @@ levels_left max opened waiting = row_left max (map (level_of max) opened) (map (
 
 abbrev pub product_left : ℕ → Product → Listing
 product_left max p = levels_left max (p.below.items ++ option_to_list p.top) p.waiting.items
+
+-- how far a product is from its end
+abbrev pub product_distance : ℕ → Product → List ℕ
+product_distance max p = distance (map (level_of max) p.below.items) (map (level_of max) (option_to_list p.top)) (length p.waiting.items)

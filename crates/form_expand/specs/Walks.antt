@@ -8,6 +8,7 @@ use Rattle.form_expand.specs.declared.power.Power.{Power}
 use Rattle.form_expand.specs.Kept.{kept_terms, end_of, listing, rest_at}
 use Rattle.form_expand.specs.Listing.{Listing, limited, powers}
 use Rattle.form_expand.specs.Left.{Level, Waiting, row_left, times_by}
+use Rattle.form_expand.specs.Moving.{distance}
 
 abbrev pub walk_whole : ℕ → Walk → Listing
 walk_whole max w = limited max (listing w.whole)
@@ -47,6 +48,10 @@ steps_left max list opened waiting = row_left max (map (step_level list) opened)
 
 abbrev pub power_left : ℕ → Power → Listing
 power_left max p = steps_left max (listing p.whole) (p.below.items ++ option_to_list p.top) p.waiting.items
+
+-- how far a power is from its end
+abbrev pub power_distance : Power → List ℕ
+power_distance p = distance (map (step_level (listing p.whole)) p.below.items) (map (step_level (listing p.whole)) (option_to_list p.top)) (length p.waiting.items)
 
 -- the list of these terms, which is done behind them
 abbrev pub all_of : List Monomial → Listing

@@ -5,8 +5,9 @@ ghost use Rattle.form_term.specs.Term.{one};
 ghost use Rattle.form_expand.specs.Kept.{listing};
 ghost use Rattle.form_expand.specs.Left.{times_by};
 ghost use Rattle.form_expand.specs.Listing.{limited, powers, single};
+ghost use Rattle.form_expand.specs.Moving.{Lessens, Nears};
 ghost use Rattle.form_expand.specs.Next.{Gives, Goes, Takes};
-ghost use Rattle.form_expand.specs.Walks.{opened_list, step_level, power_left, power_whole};
+ghost use Rattle.form_expand.specs.Walks.{opened_list, step_level, power_distance, power_left, power_whole};
 
 use crate::ExpandError;
 use crate::bound::is_invertible;
@@ -89,6 +90,7 @@ impl Step {
         whole: &mut Whole,
     ) -> Result<Option<Monomial>, ExpandError>
         ensures next { Takes limit result (step_level (listing whole.old) self.old) (step_level (listing whole.new) self.new) }
+        ensures fewer { Lessens result (opened_list (listing whole.old) self.old) (opened_list (listing whole.new) self.new) }
         ensures whole { OnOk result (listing whole.new ≡ listing whole.old) }
     {
         let Some(term) = self.next_product(alloc, whole)? else {
@@ -208,6 +210,7 @@ impl<'a> Power<'a> {
 
     fn step(&mut self, alloc: Global, limit: u64) -> Result<Progress, ExpandError>
         ensures next { Goes result (power_left limit self.old) (power_left limit self.new) }
+        ensures nearer { Nears result (power_distance self.old) (power_distance self.new) }
         ensures whole { OnOk result (power_whole limit self.new ≡ power_whole limit self.old) }
     {
         let Some(top) = &mut self.top else {

@@ -1,9 +1,10 @@
-ghost use Rattle.std.specs.Prelude.{◌≡◌, ◌++◌, ℕ, suc, [], ◌∷◌, Some, None, IfOk, OnOk, map, option_to_list};
+ghost use Rattle.std.specs.Prelude.{◌≡◌, ◌⊎◌, ◌++◌, ℕ, suc, [], ◌∷◌, Some, None, IfOk, OnOk, map, option_to_list};
 ghost use Rattle.form_expand.specs.Factors.{factor_left, factor_whole};
 ghost use Rattle.form_expand.specs.Left.{left_of_levels, row};
 ghost use Rattle.form_expand.specs.Listing.{nothing, powers};
+ghost use Rattle.form_expand.specs.Moving.{Lessens, Nears};
 ghost use Rattle.form_expand.specs.Next.{Gives, Goes, Takes};
-ghost use Rattle.form_expand.specs.Products.{level_of, level_at_first, queued_of, product_left};
+ghost use Rattle.form_expand.specs.Products.{level_of, level_at_first, queued_of, product_distance, product_left};
 ghost use Rattle.form_expand.specs.Reading.{list_of_pieces};
 
 use crate::ExpandError;
@@ -52,7 +53,8 @@ impl<'a> Level<'a> {
         limit: u64,
         deeper: u64,
     ) -> Result<Option<Monomial>, ExpandError>
-        ensures { Takes limit result (level_of limit self.old) (level_of limit self.new) }
+        ensures next { Takes limit result (level_of limit self.old) (level_of limit self.new) }
+        ensures fewer { Lessens result (level_of limit self.old).opened (level_of limit self.new).opened }
     {
         let Some(term) = self.factor.next_times(alloc, limit, &self.left, deeper)? else {
             return Ok(None);
@@ -179,7 +181,8 @@ impl<'a> Product<'a> {
 
     #[cycle(taking)]
     fn step(&mut self, alloc: Global, limit: u64, deeper: u64) -> Result<Progress, ExpandError>
-        ensures { Goes result (product_left limit self.old) (product_left limit self.new) }
+        ensures next { Goes result (product_left limit self.old) (product_left limit self.new) }
+        ensures nearer { Nears result (product_distance limit self.old) (product_distance limit self.new) }
     {
         let Some(top) = &mut self.top else {
             let Some(level) = self.below.pop() else {
@@ -220,6 +223,8 @@ impl<'a> Product<'a> {
     fn open(&mut self, alloc: Global, queued: Queued<'a>, left: Monomial) -> Result<(), AllocError>
         ensures below { OnOk result ((max : ℕ) → left_of_levels max nothing (map (level_of max) self.new.below.items)
             ≡ left_of_levels max nothing (map (level_of max) (self.old.below.items ++ option_to_list self.old.top))) }
+        ensures kept { OnOk result ((self.new.below.items ≡ self.old.below.items ++ option_to_list self.old.top)
+            ⊎ ((self.old.below.items ≡ []) × (self.new.below.items ≡ []))) }
         ensures top { OnOk result ((max : ℕ) →
             map (level_of max) (option_to_list self.new.top) ≡ level_at_first max queued.entry (Some left) ∷ []) }
         ensures waiting { self.new.waiting.items ≡ self.old.waiting.items }

@@ -2,6 +2,7 @@ pub mod Behind
 pub mod Carrying
 pub mod Grouping
 pub mod Inserting
+pub mod Nearing
 pub mod Resting
 pub mod Stepping
 pub mod Wording

@@ -2,6 +2,7 @@ pub mod Answers
 pub mod Applied
 pub mod Groups
 pub mod Left
+pub mod Nearing
 pub mod Parts
 pub mod Ready
 pub mod Rests

@@ -1,8 +1,9 @@
 //! The outputs of a term, depth first.
-ghost use Rattle.std.specs.Prelude.{◌≡◌, ◌-◌, ℕ, List, None, drop};
+ghost use Rattle.std.specs.Prelude.{◌≡◌, ◌-◌, ℕ, List, None, drop, length};
 ghost use Rattle.form_expand.specs.Listing.{before, limited};
 ghost use Rattle.form_expand.specs.Next.{Gives as GivesNext};
 ghost use Rattle.form_flow.specs.Left.{Passes, Steps, groups_in, left_in, left_of_frames, left_with, on_its_way, outputs_left};
+ghost use Rattle.form_flow.specs.Nearing.{Advances, IsNoMove, Nears, StatesEnd, weight_in, weight_with};
 ghost use Rattle.form_flow.specs.Parts.{AreParts};
 ghost use Rattle.form_flow.specs.Rewriting.{Part as AsTrees, carried, outputs as outputs_of};
 
@@ -89,7 +90,13 @@ impl<'a> Outputs<'a> {
     }
 }
 
-/// The next output, by as many steps as there have to be.
+/// Steps that give no output, each nearer to the end, come to an end: a law.
+#[tactic(none)]
+fn steps_end()
+    ensures { (n : ℕ) → StatesEnd n }
+{}
+
+/// The next output, by as many steps as there have to be; the law says that they are not endless.
 fn next_output<'a>(
     alloc: Global,
     compiled: &'a CompiledModule<'a>,
@@ -98,6 +105,7 @@ fn next_output<'a>(
     ensures { (pss : List (List AsTrees)) → AreParts compiled.now.groups pss →
         GivesNext result (left_in compiled.now.limit state.old pss) (left_in compiled.now.limit state.new pss) }
 {
+    steps_end();
     for _made in 0..u64::MAX {
         match one_step(alloc, compiled, state) {
             Ok(Step::Moves) => {}
@@ -116,8 +124,9 @@ fn one_step<'a>(
     compiled: &'a CompiledModule<'a>,
     state: &mut State<'a>,
 ) -> Result<Step, ExpandError>
-    ensures { (pss : List (List AsTrees)) → AreParts compiled.now.groups pss →
+    ensures left { (pss : List (List AsTrees)) → AreParts compiled.now.groups pss →
         Steps result (left_in compiled.now.limit state.old pss) (left_in compiled.now.limit state.new pss) }
+    ensures nearer { Nears result (weight_in (length compiled.now.groups) state.new) (weight_in (length compiled.now.groups) state.old) }
 {
     match state.waiting.take() {
         Some(waiting) => go_on(alloc, compiled, waiting, state),
@@ -134,8 +143,9 @@ fn go_on<'a>(
     state: &mut State<'a>,
 ) -> Result<Step, ExpandError>
     requires { state.old.waiting ≡ None }
-    ensures { (pss : List (List AsTrees)) → AreParts compiled.now.groups pss →
+    ensures left { (pss : List (List AsTrees)) → AreParts compiled.now.groups pss →
         Steps result (left_in compiled.now.limit (on_its_way waiting state.old) pss) (left_in compiled.now.limit state.new pss) }
+    ensures nearer { Nears result (weight_in (length compiled.now.groups) state.new) (weight_in (length compiled.now.groups) (on_its_way waiting state.old)) }
 {
     laws::following_lists();
     laws::limited_lists();
@@ -154,8 +164,9 @@ fn through_statements<'a>(
     compiled: &'a CompiledModule<'a>,
     waiting: Waiting,
 ) -> Result<Gone<'a>, ExpandError>
-    ensures { (pss : List (List AsTrees)) → AreParts compiled.now.groups pss →
+    ensures passes { (pss : List (List AsTrees)) → AreParts compiled.now.groups pss →
         Passes compiled.now.limit pss result (carried compiled.now.limit (drop waiting.behind pss) waiting.item) }
+    ensures later { Advances (length compiled.now.groups) waiting result }
 {
     laws::following_lists();
     let max = compiled.limit();
@@ -179,8 +190,9 @@ fn through_statements<'a>(
 #[tactic(none)]
 fn give(limit: u64, item: Monomial, state: &mut State<'_>) -> Result<Step, ExpandError>
     requires { state.old.waiting ≡ None }
-    ensures { (pss : List (List AsTrees)) → Steps result
+    ensures left { (pss : List (List AsTrees)) → Steps result
         (limited (limit - state.old.given) (before item (left_of_frames limit pss state.old.frames.items))) (left_in limit state.new pss) }
+    ensures no_move { IsNoMove result }
 {
     laws::limited_lists();
     if state.given >= limit {
@@ -194,7 +206,8 @@ fn give(limit: u64, item: Monomial, state: &mut State<'_>) -> Result<Step, Expan
 #[tactic(none)]
 fn next_of_frame(alloc: Global, limit: u64, state: &mut State<'_>) -> Result<Step, ExpandError>
     requires { state.old.waiting ≡ None }
-    ensures { (pss : List (List AsTrees)) → Steps result (left_in limit state.old pss) (left_in limit state.new pss) }
+    ensures left { (pss : List (List AsTrees)) → Steps result (left_in limit state.old pss) (left_in limit state.new pss) }
+    ensures nearer { (n : ℕ) → Nears result (weight_in n state.new) (weight_in n state.old) }
 {
     laws::limited_lists();
     let Some(frame) = state.frames.pop() else {
@@ -211,8 +224,9 @@ fn next_of_row<'a>(
     state: &mut State<'a>,
 ) -> Result<Step, ExpandError>
     requires { state.old.waiting ≡ None }
-    ensures { (max : ℕ) (pss : List (List AsTrees)) →
+    ensures left { (max : ℕ) (pss : List (List AsTrees)) →
         Steps result (left_with max frame.entry state.old pss) (left_in max state.new pss) }
+    ensures nearer { (n : ℕ) → Nears result (weight_in n state.new) (weight_with n frame.entry state.old) }
 {
     laws::following_lists();
     laws::limited_lists();

@@ -1,5 +1,5 @@
 -- What a term has nothing of: then a factor of a pattern has no choice in it.
-use Rattle.std.specs.Prelude.{ℕ, ◌==◌, nat_lt, Bool, false, not, ◌&&◌, length}
+use Rattle.std.specs.Prelude.{ℕ, ◌==◌, nat_lt, Bool, false, not, ◌&&◌, List, [], ◌∷◌, length}
 use Rattle.std.specs.List.{list_all}
 use Rattle.form_term.specs.declared.power.DotPower.{DotPower}
 use Rattle.form_term.specs.Term.{Term, is_nil}
@@ -23,3 +23,8 @@ lacks t (pieces.Function (Itself f)) = list_all (λ c. not (f == c.function)) t.
 lacks t (pieces.Function (Wild w sets)) = is_nil t.others.functions
 lacks t (pieces.Word n) = nat_lt (length t.others.word) n
 lacks t p = false
+
+-- the same of the first factor of a pattern
+abbrev pub lacks_at_first : Term → List PatternPiece → Bool
+lacks_at_first t [] = false
+lacks_at_first t (p ∷ ps) = lacks t p

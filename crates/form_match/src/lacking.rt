@@ -2,7 +2,7 @@
 ghost use Rattle.std.specs.Prelude.{◌≡◌, ℕ, ◌==◌, ◌&&◌, not, Bool, true, List, Option, None};
 ghost use Rattle.std.specs.List.{list_all};
 ghost use Rattle.form_term.specs.declared.piece.Piece.{Piece};
-ghost use Rattle.form_match.specs.Lacking.{lacks as lacks_for, lacks_pair as lacks_pair_of};
+ghost use Rattle.form_match.specs.Lacking.{lacks as lacks_for, lacks_at_first, lacks_pair as lacks_pair_of};
 ghost use Rattle.form_match.specs.Matching.{outer};
 ghost use Rattle.form_match.specs.States.{first_found, reach, start};
 
@@ -12,7 +12,8 @@ use form_tree::{Name, PatternPiece};
 
 /// Whether the first piece of a pattern has no candidate in a term, for what can be seen at once.
 pub fn lacks_first(term: &Term, pieces: &[PatternPiece]) -> bool
-    ensures { (table : List (Option (List Piece))) (cuts : List ℕ) (is_exact : Bool) → result ≡ true →
+    ensures seen { result ≡ lacks_at_first term.now pieces.now }
+    ensures none { (table : List (Option (List Piece))) (cuts : List ℕ) (is_exact : Bool) → result ≡ true →
         first_found (reach table pieces.now (start (outer term.now cuts is_exact))) ≡ None }
 {
     match pieces.split_first() {

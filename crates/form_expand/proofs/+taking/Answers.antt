@@ -3,12 +3,13 @@ use Rattle.std.specs.Prelude.{Some, None, Ok, Err, option_to_list}
 use Rattle.std.proofs.lemmas.List.{nil_from_length}
 use Rattle.std.proofs.lemmas.Result.{err_from_is_err_and}
 use Rattle.form_term.specs.Term.{index, vector, pieces_of_argument}
+use Rattle.form_expand.specs.declared.product.Product.{Product}
 use Rattle.form_expand.specs.Factors.{factor_left}
 use Rattle.form_expand.specs.Left.{Level, times_by}
 use Rattle.form_expand.specs.Listing.{nothing, refusal, limited, followed, signed}
-use Rattle.form_expand.specs.Moving.{Shortens}
+use Rattle.form_expand.specs.Moving.{Lessens, Shortens}
 use Rattle.form_expand.specs.Next.{Takes, Goes, progress_of}
-use Rattle.form_expand.specs.Products.{level_of, product_left}
+use Rattle.form_expand.specs.Products.{level_of, level_at_first, product_left, queued_of}
 use Rattle.form_expand.specs.Calls.{called}
 use Rattle.form_expand.specs.Kept.{listing}
 use Rattle.form_expand.specs.Reading.{in_sum, in_function, fresh, calling, list_of_pieces}
@@ -20,6 +21,7 @@ use Rattle.form_expand.specs.Parentheses.{whole_of}
 use Rattle.form_expand.specs.Walks.{all_of}
 use Rattle.form_expand.proofs.Moved.{shortens_made}
 use Rattle.form_expand.proofs.Keeping.{left_made, all_kept, one_kept, kept_past}
+use Rattle.form_expand.proofs.Nearing.{lessens_given, product_popped, product_closed, product_opened}
 use Rattle.form_expand.proofs.Products.{levels_close, levels_give, levels_open, levels_refuse, levels_done, levels_same}
 use Rattle.form_expand.proofs.Streamed.{gives_from, stream_ungiven, stream_on, stream_done}
 use Rattle.form_expand.proofs.Taking.{takes_one_to, takes_over, takes_none, takes_ungiven, goes_times_err, goes_unmade, goes_made, times_by_end}
@@ -30,31 +32,31 @@ use Rattle.form_expand.proofs.Vecs.{emptied}
 use Rattle.form_expand.proofs.+taking.Goals as goal
 use Rattle.form_expand.proofs.+taking.Goals.{parenthesis::Parenthesis::step_times-then-keeps, parenthesis::Parenthesis::step_times-else-keeps, parenthesis::Parenthesis::step_times-then-keeps-2+in_ok-push, parenthesis::Parenthesis::step_times-else-keeps-2}
 
-pub product::Level::take-returns-in_err-term : goal.product::Level::take-returns-in_err-term
-product::Level::take-returns-in_err-term t c =
+pub product::Level::take-returns-in_err-term-clause-next : goal.product::Level::take-returns-in_err-term-clause-next
+product::Level::take-returns-in_err-term-clause-next t c =
     let max = c.args.limit in
     let l = c.args.self.now in
     let e = err_from_is_err_and c.from_residual.result c.from_residual.ensures.1 in
     let new = level_of max (record { factor = c.next_times.new.self; left = l.left; count = l.count }) in
     rw (e.1, e.2) (takes_ungiven max (level_of max l) new (c.in_err-term.field-0.0) new.opened c.in_err-term.ensures.next)
 
-pub product::Level::take-returns-in_default : goal.product::Level::take-returns-in_default
-product::Level::take-returns-in_default t c =
+pub product::Level::take-returns-in_default-clause-next : goal.product::Level::take-returns-in_default-clause-next
+product::Level::take-returns-in_default-clause-next t c =
     let max = c.args.limit in
     let l = c.args.self.now in
     let gave = rw c.in_default.is at c.in_ok-term.ensures.next in
     let new = level_of max (record { factor = c.next_times.new.self; left = l.left; count = l.count }) in
     takes_none max (level_of max l) new gave.0 refl c.in_ok-term.ensures.whole
 
-pub product::Level::take-returns-then-self-limit : goal.product::Level::take-returns-then-self-limit
-product::Level::take-returns-then-self-limit t c =
+pub product::Level::take-returns-then-self-limit-clause-next : goal.product::Level::take-returns-then-self-limit-clause-next
+product::Level::take-returns-then-self-limit-clause-next t c =
     let max = c.args.limit in
     let l = c.args.self.now in
     let gave = rw c.in-Some.is at c.in_ok-term.ensures.next in
     takes_over max (level_of max l) c.in-Some.term (times_by l.left (factor_left max c.next_times.new.self)) (level_of max l) c.if-self-limit.true gave
 
-pub product::Level::take-returns : goal.product::Level::take-returns
-product::Level::take-returns t c =
+pub product::Level::take-returns-clause-next : goal.product::Level::take-returns-clause-next
+product::Level::take-returns-clause-next t c =
     let max = c.args.limit in
     let l = c.args.self.now in
     let gave = rw c.in-Some.is at c.in_ok-term.ensures.next in
@@ -62,47 +64,74 @@ product::Level::take-returns t c =
     subst (λ (s : Level). Takes max (Ok (Some c.in-Some.term)) (level_of max l) s) (sym (c.release.ensures max))
     (takes_one_to max (level_of max l) c.in-Some.term new (omega arith) gave refl c.in_ok-term.ensures.whole)
 
-pub product::Product::step-returns-in_default-pop : goal.product::Product::step-returns-in_default-pop
-product::Product::step-returns-in_default-pop t c =
+pub product::Level::take-returns-clause-fewer : goal.product::Level::take-returns-clause-fewer
+product::Level::take-returns-clause-fewer t c =
+    let max = c.args.limit in
+    let l = c.args.self.now in
+    let gave = rw c.in-Some.is at c.in_ok-term.ensures.next in
+    let new = level_of max (record { factor = c.next_times.new.self; left = l.left; count = l.count + 1 }) in
+    subst (λ (s : Level). Lessens (Ok (Some c.in-Some.term)) (level_of max l).opened s.opened) (sym (c.release.ensures max))
+    (lessens_given (Ok (Some c.in-Some.term)) (level_of max l).opened new.opened gave)
+
+pub product::Product::step-returns-in_default-pop-clause-next : goal.product::Product::step-returns-in_default-pop-clause-next
+product::Product::step-returns-in_default-pop-clause-next t c =
     let p = c.args.self.now in
     let old = emptied p.below c.in_default-pop.ensures.cases.0 in
     let new = emptied c.pop.new.self c.in_default-pop.ensures.cases.1 in
     rw (c.in_default.is, old, new) (levels_done c.args.limit p.waiting.items, levels_done c.args.limit p.waiting.items)
 
-pub product::Product::step-returns-in_default : goal.product::Product::step-returns-in_default
-product::Product::step-returns-in_default t c = rw (c.in_default.is, append-nil, c.in-Some-pop.ensures.items) refl
+pub product::Product::step-returns-in_default-clause-next : goal.product::Product::step-returns-in_default-clause-next
+product::Product::step-returns-in_default-clause-next t c = rw (c.in_default.is, append-nil, c.in-Some-pop.ensures.items) refl
 
-pub product::Product::step-returns-in_err-term : goal.product::Product::step-returns-in_err-term
-product::Product::step-returns-in_err-term t c =
+pub product::Product::step-returns-in_err-term-clause-next : goal.product::Product::step-returns-in_err-term-clause-next
+product::Product::step-returns-in_err-term-clause-next t c =
     let p = c.args.self.now in
     let max = c.args.limit in
     let e = err_from_is_err_and c.from_residual.result c.from_residual.ensures.1 in
     let then = product_left max (record { top = Some c.take.new.self; below = p.below; waiting = p.waiting }) in
-    rw (e.1, e.2, c.in-Some.is) (levels_refuse max p.below.items c.in-Some.top c.take.new.self p.waiting.items (c.in_err-term.field-0.0) (level_of max c.take.new.self) then c.in_err-term.ensures)
+    rw (e.1, e.2, c.in-Some.is) (levels_refuse max p.below.items c.in-Some.top c.take.new.self p.waiting.items (c.in_err-term.field-0.0) (level_of max c.take.new.self) then c.in_err-term.ensures.next)
 
-pub product::Product::step-returns-in_default-2 : goal.product::Product::step-returns-in_default-2
-product::Product::step-returns-in_default-2 t c =
+pub product::Product::step-returns-in_default-2-clause-next : goal.product::Product::step-returns-in_default-2-clause-next
+product::Product::step-returns-in_default-2-clause-next t c =
     let p = c.args.self.now in
-    let took = rw c.in_default-2.is at c.in_ok-term.ensures in
+    let took = rw c.in_default-2.is at c.in_ok-term.ensures.next in
     rw (c.close.ensures.top, c.close.ensures.below, c.in_ok-close.ensures.waiting, c.in-Some.is, append-nil)
     (sym (levels_close c.args.limit p.below.items c.in-Some.top c.take.new.self p.waiting.items took))
 
-pub product::Product::step-returns-in_default-pop-2 : goal.product::Product::step-returns-in_default-pop-2
-product::Product::step-returns-in_default-pop-2 t c =
+pub product::Product::step-returns-in_default-pop-2-clause-next : goal.product::Product::step-returns-in_default-pop-2-clause-next
+product::Product::step-returns-in_default-pop-2-clause-next t c =
     let p = c.args.self.now in
-    let took = rw c.in-Some-2.is at c.in_ok-term.ensures in
+    let took = rw c.in-Some-2.is at c.in_ok-term.ensures.next in
     let last = emptied p.waiting c.in_default-pop-2.ensures.cases.0 in
     let none = emptied c.pop-2.new.self c.in_default-pop-2.ensures.cases.1 in
     rw (c.in-Some.is, last, none) (levels_give c.args.limit p.below.items c.in-Some.top c.take.new.self c.in-Some-2.term took)
 
-pub product::Product::step-returns : goal.product::Product::step-returns
-product::Product::step-returns t c =
+pub product::Product::step-returns-clause-next : goal.product::Product::step-returns-clause-next
+product::Product::step-returns-clause-next t c =
     let p = c.args.self.now in
     let max = c.args.limit in
-    let took = rw c.in-Some-2.is at c.in_ok-term.ensures in
+    let took = rw c.in-Some-2.is at c.in_ok-term.ensures.next in
     rw (c.open.ensures.waiting, c.in-Some.is, c.in-Some-pop-2.ensures.items)
     (levels_same max (p.below.items ++ c.take.new.self ∷ []) c.open.new.self.below.items (option_to_list c.open.new.self.top) c.pop-2.new.self.items (c.in_ok-open.ensures.below max)
     ∙ sym (levels_open max p.below.items c.in-Some.top c.take.new.self c.in-Some-2.term c.pop-2.new.self.items c.in-Some-pop-2.queued (option_to_list c.open.new.self.top) (c.in_ok-open.ensures.top max) took))
+
+pub product::Product::step-returns-in_default-clause-nearer : goal.product::Product::step-returns-in_default-clause-nearer
+product::Product::step-returns-in_default-clause-nearer t c =
+    let p = c.args.self.now in
+    let new : Product = record { top = Some c.in-Some-pop.level; below = c.pop.new.self; waiting = p.waiting } in
+    product_popped c.args.limit p new c.in-Some-pop.level c.in_default.is refl c.in-Some-pop.ensures.items refl
+
+pub product::Product::step-returns-in_default-2-clause-nearer : goal.product::Product::step-returns-in_default-2-clause-nearer
+product::Product::step-returns-in_default-2-clause-nearer t c =
+    product_closed c.args.limit c.args.self.now c.close.new.self c.in-Some.top (queued_of c.take.new.self) c.in-Some.is c.close.ensures.top c.close.ensures.below c.in_ok-close.ensures.waiting
+
+pub product::Product::step-returns-clause-nearer : goal.product::Product::step-returns-clause-nearer
+product::Product::step-returns-clause-nearer t c =
+    let max = c.args.limit in
+    let queued = c.in-Some-pop-2.queued in
+    let fewer = rw c.in-Some-2.is at c.in_ok-term.ensures.fewer in
+    product_opened max c.args.self.now c.open.new.self c.in-Some.top c.take.new.self (level_at_first max queued (Some c.in-Some-2.term)) queued fewer
+    c.in-Some.is (c.in_ok-open.ensures.top max) c.in_ok-open.ensures.kept (c.in-Some-pop-2.ensures.items ∙ ap (λ qs. qs ++ queued ∷ []) (sym c.open.ensures.waiting))
 
 pub stream::Stream::next-returns-in_err-term : goal.stream::Stream::next-returns-in_err-term
 unfolding stream_left

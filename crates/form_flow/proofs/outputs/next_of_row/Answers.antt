@@ -2,11 +2,12 @@ use Rattle.std.proofs.Common.{◌≡◌, Err, refl, rules, subst, sym, ◌∙◌
 use Rattle.std.proofs.lemmas.Result.{err_from_is_err_and}
 use Rattle.form_expand.specs.Listing.{Listing, nothing}
 use Rattle.form_expand.specs.Next.{Gives}
+use Rattle.form_flow.proofs.Nearing.{row_last_nearer, row_off_nearer, row_on_nearer}
 use Rattle.form_flow.proofs.Stepping.{row_err, row_last, row_off, row_on}
 use Rattle.form_flow.proofs.outputs.next_of_row.Goals as goal
 
-pub returns-then-is_spent : goal.returns-then-is_spent
-returns-then-is_spent c = λ max pss.
+pub returns-then-is_spent-clause-left : goal.returns-then-is_spent-clause-left
+returns-then-is_spent-clause-left c = λ max pss.
     let f = c.following_lists.ensures in
     let l = c.limited_lists.ensures in
     let done : c.next.new.self ≡ nothing = search rules in
@@ -15,12 +16,12 @@ returns-then-is_spent c = λ max pss.
     max c.args.state.now pss c.requires c.args.frame c.in-Ok-Some.item c.next.new.self
     (sym c.deref_mut.ensures.value ∙ rw c.in-Ok-Some.field-0-is at c.in-Ok-Some.ensures) done
 
-pub returns-in_err-push-in-Ok-Some : goal.returns-in_err-push-in-Ok-Some
-returns-in_err-push-in-Ok-Some c = λ max pss.
+pub returns-in_err-push-in-Ok-Some-clause-left : goal.returns-in_err-push-in-Ok-Some-clause-left
+returns-in_err-push-in-Ok-Some-clause-left c = λ max pss.
     let p = err_from_is_err_and c.from_residual.result c.from_residual.ensures.1 in rw (p.1, p.2) tt
 
-pub returns-in_ok-push-in-Ok-Some : goal.returns-in_ok-push-in-Ok-Some
-returns-in_ok-push-in-Ok-Some c = λ max pss.
+pub returns-in_ok-push-in-Ok-Some-clause-left : goal.returns-in_ok-push-in-Ok-Some-clause-left
+returns-in_ok-push-in-Ok-Some-clause-left c = λ max pss.
     let f = c.following_lists.ensures in
     let l = c.limited_lists.ensures in
     row_on (record { associative = f.associative; first = f.first; begun = f.begun; refused = f.refused })
@@ -28,8 +29,8 @@ returns-in_ok-push-in-Ok-Some c = λ max pss.
     max c.args.state.now pss c.requires c.args.frame c.in-Ok-Some.item _ c.push.new.self
     (sym c.deref_mut.ensures.value ∙ rw c.in-Ok-Some.field-0-is at c.in-Ok-Some.ensures) refl c.in_ok-push-in-Ok-Some.ensures.items
 
-pub returns-in-Ok-None : goal.returns-in-Ok-None
-returns-in-Ok-None c = λ max pss.
+pub returns-in-Ok-None-clause-left : goal.returns-in-Ok-None-clause-left
+returns-in-Ok-None-clause-left c = λ max pss.
     let f = c.following_lists.ensures in
     let l = c.limited_lists.ensures in
     let e = (rw c.in-Ok-None.field-0-is at c.in-Ok-None.ensures) in
@@ -37,10 +38,30 @@ returns-in-Ok-None c = λ max pss.
     (record { begun = l.begun; beyond = l.beyond; none = l.none; refused = l.refused })
     max c.args.state.now pss c.requires c.args.frame (sym c.deref_mut.ensures.value ∙ e.0)
 
-pub returns-in-Err : goal.returns-in-Err
-returns-in-Err c = λ max pss.
+pub returns-in-Err-clause-left : goal.returns-in-Err-clause-left
+returns-in-Err-clause-left c = λ max pss.
     let f = c.following_lists.ensures in
     let l = c.limited_lists.ensures in
     row_err (record { associative = f.associative; first = f.first; begun = f.begun; refused = f.refused })
     (record { begun = l.begun; beyond = l.beyond; none = l.none; refused = l.refused })
     max c.args.state.now pss c.requires c.args.frame c.next.new.self _ c.in-Err.error (subst (λ (l : Listing). Gives (Err c.in-Err.error) l c.next.new.self) c.deref_mut.ensures.value c.in-Err.ensures)
+
+pub returns-then-is_spent-clause-nearer : goal.returns-then-is_spent-clause-nearer
+returns-then-is_spent-clause-nearer c = λ n.
+    row_last_nearer n c.args.state.now c.requires c.args.frame c.in-Ok-Some.item c.next.new.self
+    (sym c.deref_mut.ensures.value ∙ rw c.in-Ok-Some.field-0-is at c.in-Ok-Some.ensures)
+
+pub returns-in_err-push-in-Ok-Some-clause-nearer : goal.returns-in_err-push-in-Ok-Some-clause-nearer
+returns-in_err-push-in-Ok-Some-clause-nearer c = λ n.
+    let p = err_from_is_err_and c.from_residual.result c.from_residual.ensures.1 in rw p.1 tt
+
+pub returns-in_ok-push-in-Ok-Some-clause-nearer : goal.returns-in_ok-push-in-Ok-Some-clause-nearer
+returns-in_ok-push-in-Ok-Some-clause-nearer c = λ n.
+    row_on_nearer n c.args.state.now c.requires c.args.frame c.in-Ok-Some.item c.next.new.self
+    (sym c.deref_mut.ensures.value ∙ rw c.in-Ok-Some.field-0-is at c.in-Ok-Some.ensures) _ c.push.new.self refl refl c.in_ok-push-in-Ok-Some.ensures.items
+
+pub returns-in-Ok-None-clause-nearer : goal.returns-in-Ok-None-clause-nearer
+returns-in-Ok-None-clause-nearer c = λ n. row_off_nearer n c.args.state.now c.args.frame c.requires
+
+pub returns-in-Err-clause-nearer : goal.returns-in-Err-clause-nearer
+returns-in-Err-clause-nearer c = λ n. tt

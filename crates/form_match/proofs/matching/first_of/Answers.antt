@@ -17,7 +17,7 @@ returns-then-are_symbols-clause-first c = λ fs is. c.first_of_symbols.ensures.f
 
 pub returns-then-lacks_first-clause-first : goal.returns-then-lacks_first-clause-first
 returns-then-lacks_first-clause-first c = λ fs is.
-    sym (c.lacks_first.ensures c.args.pattern.now.fixed c.args.cuts.now c.args.is_exact c.if-lacks_first.true)
+    sym (c.lacks_first.ensures.none c.args.pattern.now.fixed c.args.cuts.now c.args.is_exact c.if-lacks_first.true)
     ∙ reached_is c.args.term.now c.args.cuts.now c.args.is_exact c.args.pattern.now.fixed c.args.pattern.now.fixed fs c.pieces-pieces.result.now refl (c.pieces-pieces.ensures ∙ is)
 
 pub returns-then-is_straight-clause-first : goal.returns-then-is_straight-clause-first

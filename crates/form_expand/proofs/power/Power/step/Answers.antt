@@ -1,8 +1,11 @@
-use Rattle.std.proofs.Common.{refl, sym, append-nil}
+use Rattle.std.proofs.Common.{◌++◌, [], ◌∷◌, refl, sym, ap, ◌∙◌, append-nil}
 use Rattle.std.specs.Prelude.{Some, None, Ok}
 use Rattle.std.proofs.lemmas.Result.{err_from_is_err_and}
+use Rattle.form_expand.specs.declared.power.Power.{Power}
+use Rattle.form_expand.specs.declared.power.Step.{Step}
 use Rattle.form_expand.specs.Kept.{listing}
 use Rattle.form_expand.specs.Walks.{step_level, power_left}
+use Rattle.form_expand.proofs.Nearing.{power_popped, power_closed, power_opened}
 use Rattle.form_expand.proofs.Vecs.{emptied}
 use Rattle.form_expand.proofs.Powers.{in_same_list, steps_close, steps_give, steps_open, steps_refuse, steps_done}
 use Rattle.form_expand.proofs.power.Power.step.Goals as goal
@@ -59,3 +62,22 @@ returns-clause-next c =
 
 pub returns-clause-whole : goal.returns-clause-whole
 returns-clause-whole c = rw (c.open.ensures.whole, c.open.ensures.later, c.in_ok-term.ensures.whole) refl
+
+pub returns-in_default-clause-nearer : goal.returns-in_default-clause-nearer
+returns-in_default-clause-nearer c =
+    let p = c.args.self.now in
+    let new : Power = record { whole = p.whole; later = p.later; top = Some c.in-Some-pop.step; below = c.pop.new.self; waiting = p.waiting } in
+    power_popped p new refl c.in-Some-pop.step c.in_default.is refl c.in-Some-pop.ensures.items refl
+
+pub returns-in_default-2-clause-nearer : goal.returns-in_default-2-clause-nearer
+returns-in_default-2-clause-nearer c =
+    power_closed c.args.self.now c.close.new.self (ap listing c.close.ensures.whole ∙ c.in_ok-term.ensures.whole) c.in-Some.top c.take.new.self.count
+    c.in-Some.is c.close.ensures.top c.close.ensures.below c.in_ok-close.ensures.waiting
+
+pub returns-clause-nearer : goal.returns-clause-nearer
+returns-clause-nearer c =
+    let same = c.in_ok-term.ensures.whole in
+    let next : Step = record { left = Some c.in-Some-2.term; place = 0; count = c.in-Some-pop-2.count } in
+    let fewer = rw c.in-Some-2.is at c.in_ok-term.ensures.fewer in
+    power_opened c.args.self.now c.open.new.self (ap listing c.open.ensures.whole ∙ same) c.in-Some.top c.take.new.self next c.in-Some-pop-2.count (listing c.take.new.whole) same fewer
+    c.in-Some.is c.in_ok-open.ensures.top c.in_ok-open.ensures.below (c.in-Some-pop-2.ensures.items ∙ ap (λ qs. qs ++ c.in-Some-pop-2.count ∷ []) (sym c.open.ensures.waiting))

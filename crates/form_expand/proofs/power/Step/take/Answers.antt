@@ -1,7 +1,9 @@
 use Rattle.std.proofs.Common.{◌+◌, arith}
+use Rattle.std.specs.Prelude.{Some, Ok}
 use Rattle.std.proofs.lemmas.Result.{err_from_is_err_and}
 use Rattle.form_expand.specs.Kept.{listing}
-use Rattle.form_expand.specs.Walks.{step_level}
+use Rattle.form_expand.specs.Walks.{opened_list, step_level}
+use Rattle.form_expand.proofs.Nearing.{lessens_given}
 use Rattle.form_expand.proofs.Taking.{takes_one_to, takes_over, takes_none, takes_ungiven}
 use Rattle.form_expand.proofs.power.Step.take.Goals as goal
 
@@ -33,3 +35,8 @@ returns-clause-next c =
     let new = step_level (listing c.next_product.new.whole) (record { left = s.left; place = s.place; count = s.count + 1 }) in
     let gave = rw c.in-Some.is at c.in_ok-term.ensures.next in
     takes_one_to c.args.limit old c.in-Some.term new (omega (arith, c.if-self-limit.false, c.next_product.ensures.count)) gave (omega (arith, c.next_product.ensures.count)) c.in_ok-term.ensures.whole
+
+pub returns-clause-fewer : goal.returns-clause-fewer
+returns-clause-fewer c =
+    let gave = rw c.in-Some.is at c.in_ok-term.ensures.next in
+    lessens_given (Ok (Some c.in-Some.term)) (opened_list (listing c.args.whole.now) c.args.self.now) (opened_list (listing c.next_product.new.whole) c.next_product.new.self) gave
