@@ -1,5 +1,5 @@
--- How near steps that give no term come to the end of a list.
-use Rattle.std.specs.Prelude.{◌≡◌, ◌⊎◌, ◌<◌, ◌≤◌, ◌+◌, ℕ, suc, List, [], ◌∷◌, ◌++◌, length, map, Option, Some, None, Result, Ok, Err}
+-- How near to the end of a list steps come that only move.
+use Rattle.std.specs.Prelude.{◌≡◌, ◌⊎◌, ◌<◌, ◌+◌, ℕ, suc, List, [], ◌∷◌, ◌++◌, length, map, Option, Some, None, Result, Ok, Err}
 use Rattle.form_term.specs.declared.monomial.Monomial.{Monomial}
 use Rattle.form_expand.specs.declared.error.ExpandError.{ExpandError}
 use Rattle.form_expand.specs.declared.progress.Progress.{Progress}
@@ -7,44 +7,47 @@ use Rattle.form_expand.specs.declared.progress.Progress.TheVariants as progress
 use Rattle.form_expand.specs.Left.{Level}
 use Rattle.form_expand.specs.Listing.{Listing}
 
--- a term that was given is gone from the list
+-- where a term was given fewer are left
 abbrev pub Lessens : Result (Option Monomial) ExpandError → Listing → Listing → Type 0
 Lessens (Ok (Some m)) old new = length new.terms < length old.terms
 Lessens (Ok None) old new = Unit {0}
 Lessens (Err e) old new = Unit {0}
 
--- a step that gives no term leaves less of the list
+-- a step that only moves leaves fewer terms of the list
 abbrev pub Shortens : Result Progress ExpandError → Listing → Listing → Type 0
 Shortens (Ok progress.Moves) old new = length new.terms < length old.terms
 Shortens (Ok (progress.Gives m)) old new = Unit {0}
 Shortens (Ok progress.Done) old new = Unit {0}
 Shortens (Err e) old new = Unit {0}
 
--- one more than a list that terms are being taken from has left
+-- one more than there are terms left of a list that terms are being taken from
 abbrev pub left_to_take : Level → ℕ
 left_to_take s = suc (length s.opened.terms)
 
--- behind the last of the lists that terms are being taken from, where it isn't at hand yet
+-- a 0 where the deepest of the lists that terms are being taken from isn't at hand
 abbrev pub not_at_hand : List Level → List ℕ
 not_at_hand [] = 0 ∷ []
 not_at_hand (s ∷ top) = []
 
--- How far a row is from its end, of whose lists the deepest at hand is the top: how many lists it has, so many of which
--- wait, and what there is to take of each of the others.
+-- How far a row is from its end: how many lists it has, of which so many wait; for each that terms are being taken from,
+-- from the first on, one more than it has left; and last a 0 where the deepest of these, the top, isn't at hand.
 abbrev pub distance : List Level → List Level → ℕ → List ℕ
 distance below top waiting = (length below + length top + waiting) ∷ map left_to_take (below ++ top) ++ not_at_hand top
 
--- One distance is nearer than another: the first number that differs is lower, or it ends where the other one goes on.
+-- A distance is nearer than another one, in lexicographic order: the first number that differs is lower, or it ends where the
+-- other one goes on.
 abbrev pub IsNearer : (new old : List ℕ) → Type 0
 IsNearer new [] = ⊥
 IsNearer [] (c ∷ old) = Unit {0}
 IsNearer (d ∷ new) (c ∷ old) = (d < c) ⊎ ((d ≡ c) × IsNearer new old)
 
--- there is no endless sequence of distances of at most n numbers, each nearer than the one before it
-abbrev pub DistancesEnd : ℕ → Type 0
-DistancesEnd n = (far : ℕ → List ℕ) → ((i : ℕ) → length (far i) ≤ n) → ((i : ℕ) → IsNearer (far (i + 1)) (far i)) → ⊥
+-- The order is well-founded: there is no endless sequence of rows, each nearer to its end than the one before it. (A row of n
+-- lists has a distance of at most n + 2 numbers, and no nearer one has more lists.)
+abbrev pub RowsEnd : Type 0
+RowsEnd = (below top : ℕ → List Level) (waiting : ℕ → ℕ)
+    → ((i : ℕ) → IsNearer (distance (below (i + 1)) (top (i + 1)) (waiting (i + 1))) (distance (below i) (top i) (waiting i))) → ⊥
 
--- a step that gives no term comes nearer to the end
+-- a step that only moves comes nearer to the end
 abbrev pub Nears : Result Progress ExpandError → (old new : List ℕ) → Type 0
 Nears (Ok progress.Moves) old new = IsNearer new old
 Nears (Ok (progress.Gives m)) old new = Unit {0}

@@ -7,7 +7,7 @@ ghost use Rattle.form_tree.specs.Tree.{Sum, pieces_of_sum};
 ghost use Rattle.form_expand.specs.Expanding.{list_of_sum};
 ghost use Rattle.form_expand.specs.Listing.{Listing, nothing, refusal, before, limited, followed};
 ghost use Rattle.form_expand.specs.Meanings.{Meanings};
-ghost use Rattle.form_expand.specs.Moving.{DistancesEnd};
+ghost use Rattle.form_expand.specs.Moving.{RowsEnd};
 ghost use Rattle.form_expand.specs.Reading.{list_of_pieces};
 
 /// A list and then another: what is done last may be done first, a list without terms changes nothing, a term stays in front,
@@ -35,8 +35,7 @@ pub fn lists_of_trees()
     ensures within { (max : ℕ) (all : Meanings) (s : Sum) → limited max (list_of_sum max all s) ≡ list_of_sum max all s }
 {}
 
-/// A row whose terms are taken one by one comes to its end: each step that gives none comes nearer to it, and that can't go on
-/// for ever, since a row of so many lists has a distance of at most two numbers more.
-pub fn distances_end()
-    ensures { (n : ℕ) → DistancesEnd n }
+/// Steps that only move, each nearer to the end of a row, can't go on for ever.
+pub fn rows_end()
+    ensures { RowsEnd }
 {}

@@ -34,7 +34,7 @@ nearer_still new mid old a b = by (cases_order a.ahead b.ahead)
       same = λ k above. let far : b.ahead < k = omega (arith, below, above) in a.same k above ∙ b.same k far;
     }
 
-pub nears_still : (r : Result Step ExpandError) (new mid old : ℕ → ℕ) → IsNearer mid old → Nears r new mid → Nears r new old
+pub nears_still : (r : Result Step ExpandError) (new mid old : ℕ → ℕ) → IsNearer mid old → Nears r mid new → Nears r old new
 nears_still (Ok Moves) new mid old b a = nearer_still new mid old a b
 nears_still (Ok (Gives m)) new mid old b a = tt
 nears_still (Ok Done) new mid old b a = tt
@@ -47,13 +47,13 @@ nearer_alike new mid old same a = record {
   same = λ k above. a.same k above ∙ same k;
 }
 
-pub nears_alike : (r : Result Step ExpandError) (new mid old : ℕ → ℕ) → ((k : ℕ) → mid k ≡ old k) → Nears r new mid → Nears r new old
+pub nears_alike : (r : Result Step ExpandError) (new mid old : ℕ → ℕ) → ((k : ℕ) → mid k ≡ old k) → Nears r mid new → Nears r old new
 nears_alike (Ok Moves) new mid old same a = nearer_alike new mid old same a
 nears_alike (Ok (Gives m)) new mid old same a = tt
 nears_alike (Ok Done) new mid old same a = tt
 nears_alike (Err error) new mid old same a = tt
 
-pub nears_no_move : (r : Result Step ExpandError) (new old : ℕ → ℕ) → IsNoMove r → Nears r new old
+pub nears_no_move : (r : Result Step ExpandError) (new old : ℕ → ℕ) → IsNoMove r → Nears r old new
 nears_no_move (Ok Moves) new old never = absurd never
 nears_no_move (Ok (Gives m)) new old is = tt
 nears_no_move (Ok Done) new old is = tt

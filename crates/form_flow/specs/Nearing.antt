@@ -18,7 +18,7 @@ waiting_weight n ahead (Some w) = if n - w.behind == ahead then 1 else 0
 abbrev pub frame_weight : (n ahead : ℕ) → Frame → ℕ
 frame_weight n ahead f = if n - f.behind == ahead then 2 * length f.row.value.terms + 1 else 0
 
--- all that has so many of n statements ahead
+-- what all weighs that has so many of n statements ahead
 unfoldable pub weight_in : ℕ → State → ℕ → ℕ
 weight_in n s ahead = waiting_weight n ahead s.waiting + sum_by (frame_weight n ahead) s.frames.items
 
@@ -26,23 +26,23 @@ weight_in n s ahead = waiting_weight n ahead s.waiting + sum_by (frame_weight n 
 abbrev pub weight_with : ℕ → Frame → State → ℕ → ℕ
 weight_with n f s ahead = frame_weight n ahead f + weight_in n s ahead
 
--- Nearer to the end: there is less of what has so many statements ahead, and as much as before of what has more ahead. What
--- has fewer ahead may grow.
+-- Nearer to the end, in lexicographic order of how many statements are ahead, the most first: there is less of what has so
+-- many ahead, and as much as before of what has more. What has fewer may grow.
 pub record IsNearer (new old : ℕ → ℕ) : Type 0 where
   pub ahead : ℕ
   pub less : new ahead < old ahead
   pub same : (further : ℕ) → ahead < further → new further ≡ old further
 
--- there is no endless sequence of states, each nearer to the end than the one before it
+-- the order is well-founded: there is no endless sequence of states, each nearer to the end than the one before it
 abbrev pub StatesEnd : ℕ → Type 0
 StatesEnd n = (states : ℕ → State) → ((i : ℕ) → IsNearer (weight_in n (states (i + 1))) (weight_in n (states i))) → ⊥
 
--- a step that gives no output comes nearer
-abbrev pub Nears : Result Step ExpandError → (new old : ℕ → ℕ) → Type 0
-Nears (Ok Moves) new old = IsNearer new old
-Nears (Ok (Gives m)) new old = Unit {0}
-Nears (Ok Done) new old = Unit {0}
-Nears (Err error) new old = Unit {0}
+-- a step that only moves comes nearer to the end
+abbrev pub Nears : Result Step ExpandError → (old new : ℕ → ℕ) → Type 0
+Nears (Ok Moves) old new = IsNearer new old
+Nears (Ok (Gives m)) old new = Unit {0}
+Nears (Ok Done) old new = Unit {0}
+Nears (Err error) old new = Unit {0}
 
 -- a step that doesn't only move
 abbrev pub IsNoMove : Result Step ExpandError → Type 0

@@ -90,13 +90,13 @@ impl<'a> Outputs<'a> {
     }
 }
 
-/// Steps that give no output, each nearer to the end, come to an end: a law.
+/// Steps that only move, each nearer to the end, can't go on for ever: a law.
 #[tactic(none)]
 fn steps_end()
     ensures { (n : ℕ) → StatesEnd n }
 {}
 
-/// The next output, by as many steps as there have to be; the law says that they are not endless.
+/// Steps until one gives an output. Those before it only move, and by the law above they can't go on for ever.
 fn next_output<'a>(
     alloc: Global,
     compiled: &'a CompiledModule<'a>,
@@ -126,7 +126,7 @@ fn one_step<'a>(
 ) -> Result<Step, ExpandError>
     ensures left { (pss : List (List AsTrees)) → AreParts compiled.now.groups pss →
         Steps result (left_in compiled.now.limit state.old pss) (left_in compiled.now.limit state.new pss) }
-    ensures nearer { Nears result (weight_in (length compiled.now.groups) state.new) (weight_in (length compiled.now.groups) state.old) }
+    ensures nearer { Nears result (weight_in (length compiled.now.groups) state.old) (weight_in (length compiled.now.groups) state.new) }
 {
     match state.waiting.take() {
         Some(waiting) => go_on(alloc, compiled, waiting, state),
@@ -145,7 +145,7 @@ fn go_on<'a>(
     requires { state.old.waiting ≡ None }
     ensures left { (pss : List (List AsTrees)) → AreParts compiled.now.groups pss →
         Steps result (left_in compiled.now.limit (on_its_way waiting state.old) pss) (left_in compiled.now.limit state.new pss) }
-    ensures nearer { Nears result (weight_in (length compiled.now.groups) state.new) (weight_in (length compiled.now.groups) (on_its_way waiting state.old)) }
+    ensures nearer { Nears result (weight_in (length compiled.now.groups) (on_its_way waiting state.old)) (weight_in (length compiled.now.groups) state.new) }
 {
     laws::following_lists();
     laws::limited_lists();
@@ -207,7 +207,7 @@ fn give(limit: u64, item: Monomial, state: &mut State<'_>) -> Result<Step, Expan
 fn next_of_frame(alloc: Global, limit: u64, state: &mut State<'_>) -> Result<Step, ExpandError>
     requires { state.old.waiting ≡ None }
     ensures left { (pss : List (List AsTrees)) → Steps result (left_in limit state.old pss) (left_in limit state.new pss) }
-    ensures nearer { (n : ℕ) → Nears result (weight_in n state.new) (weight_in n state.old) }
+    ensures nearer { (n : ℕ) → Nears result (weight_in n state.old) (weight_in n state.new) }
 {
     laws::limited_lists();
     let Some(frame) = state.frames.pop() else {
@@ -226,7 +226,7 @@ fn next_of_row<'a>(
     requires { state.old.waiting ≡ None }
     ensures left { (max : ℕ) (pss : List (List AsTrees)) →
         Steps result (left_with max frame.entry state.old pss) (left_in max state.new pss) }
-    ensures nearer { (n : ℕ) → Nears result (weight_in n state.new) (weight_with n frame.entry state.old) }
+    ensures nearer { (n : ℕ) → Nears result (weight_with n frame.entry state.old) (weight_in n state.new) }
 {
     laws::following_lists();
     laws::limited_lists();
