@@ -5,6 +5,7 @@ pub mod Marks
 pub mod Parting
 pub mod Pattern
 pub mod PatternWalking
+pub mod Plain
 pub mod Program
 pub mod Refusal
 pub mod RightSide

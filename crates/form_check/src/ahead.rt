@@ -1,5 +1,6 @@
 //! What the pieces say that come next in a right side.
-ghost use Rattle.std.specs.Prelude.{◌≡◌, ℕ, None, Ok, IfOk, IfSome, is_some};
+ghost use Rattle.std.specs.Prelude.{◌≡◌, None, Ok, IfOk, IfSome, is_some};
+ghost use Rattle.form_check.specs.Plain.{has_plain_power};
 ghost use Rattle.form_check.specs.Refusal.{error_of};
 ghost use Rattle.form_check.specs.RightSide.{lone as lone_of, wrong, spelled_of};
 ghost use Rattle.form_check.specs.RightSide as definition;
@@ -43,7 +44,7 @@ pub fn power_at(rest: &[form_ast::Piece]) -> Option<Power>
 #[inline(always)]
 pub fn plain_power(rest: &[form_ast::Piece], most: u32) -> Option<(bool, u32)>
     ensures some { IfSome result (λ power. (walking.name_power_at rest.now ≡ None) × (definition.has_minus (walking.power_at rest.now) ≡ power.0) × (definition.size_within most (walking.power_at rest.now) ≡ Ok power.1)) }
-    ensures none { result ≡ None → walking.name_power_at rest.now ≡ None → (size : ℕ) → definition.size_within most (walking.power_at rest.now) ≡ Ok size → ⊥ }
+    ensures exactly { is_some result ≡ has_plain_power most rest.now }
 {
     match rest {
         [form_ast::Piece::Raised(_, sign, number), ..] => {

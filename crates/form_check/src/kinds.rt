@@ -1,7 +1,8 @@
 //! What names stand for, and what can't stand there.
-ghost use Rattle.std.specs.Prelude.{◌≡◌, Bool, None, Some, Ok, ℕ, IfOk, IfSome};
+ghost use Rattle.std.specs.Prelude.{◌≡◌, Some, Ok, IfOk, IfSome, is_some};
 ghost use Rattle.form_base.specs.declared.cause.Cause.TheVariants.{WrongKind, Undeclared};
 ghost use Rattle.form_names.specs.Names.{lookup, kind_at};
+ghost use Rattle.form_check.specs.Plain.{is_symbol, is_plain_call};
 ghost use Rattle.form_check.specs.Refusal.{Gives, error_of};
 ghost use Rattle.form_check.specs.RightSide.{spelled_of, wrong, delta_at, misplaced as misplaced_name, found as found_of, vector as vector_named, named_end as end_named, fixed_end as end_fixed, head as head_named, lone_named};
 ghost use Rattle.form_check.specs.Walking.{alone_piece, entry_piece, alone_end as end_alone, IsLone};
@@ -72,7 +73,7 @@ pub fn misplaced(alloc: Global, names: &Names, named: &Named) -> Result<CheckErr
 pub fn plain_symbol(names: &Names, spelled: &Spelled) -> Option<Id>
     ensures stands { IfSome result (λ id. lookup names.now spelled.now.name ≡ Some id) }
     ensures kind { IfSome result (λ id. kind_at names.now id ≡ Some Kind.Symbol) }
-    ensures none { result ≡ None → (id : ℕ) → lookup names.now spelled.now.name ≡ Some id → kind_at names.now id ≡ Some Kind.Symbol → ⊥ }
+    ensures exactly { is_some result ≡ is_symbol names.now spelled.now }
 {
     let id = names.lookup(spelled.name.as_str())?;
     if matches!(names.kind(id), Kind::Symbol) {
@@ -86,7 +87,7 @@ pub fn plain_symbol(names: &Names, spelled: &Spelled) -> Option<Id>
 #[inline(always)]
 pub fn plain_head(names: &Names, spelled: &Spelled) -> Option<(Id, bool)>
     ensures some { IfSome result (λ f. head_named names.now (Named.Declared spelled.now) ≡ Ok (Head.Function f.0 f.1)) }
-    ensures none { result ≡ None → (id : ℕ) (is_commuting : Bool) → head_named names.now (Named.Declared spelled.now) ≡ Ok (Head.Function id is_commuting) → ⊥ }
+    ensures exactly { is_some result ≡ is_plain_call names.now (Named.Declared spelled.now) }
 {
     let id = names.lookup(spelled.name.as_str())?;
     match names.kind(id) {

@@ -1,8 +1,9 @@
 //! The commonest pieces of a right side, on a short way: nothing refuses them, and no other piece is asked but their
 //! power.
-ghost use Rattle.std.specs.Prelude.{◌≡◌, ◌+◌, ◌<◌, ◌≤◌, ◌^◌, ◌++◌, ◌∷◌, [], List, None, Ok, IfOk, IfSome, OnOk, ℕ, pos, neg_ℤ, Bool, false, not, if◌then◌else◌};
+ghost use Rattle.std.specs.Prelude.{◌≡◌, ◌+◌, ◌<◌, ◌≤◌, ◌^◌, ◌++◌, ◌∷◌, [], List, None, Ok, IfOk, IfSome, is_some, OnOk, ℕ, pos, neg_ℤ, Bool, false, not, if◌then◌else◌};
 ghost use Rattle.form_ast.specs.declared.expr.Piece as written;
 ghost use Rattle.form_names.specs.Names.{Entry};
+ghost use Rattle.form_check.specs.Plain as plain;
 ghost use Rattle.form_check.specs.RightSide as definition;
 ghost use Rattle.form_check.specs.RightSide.{lone as lone_of};
 ghost use Rattle.form_check.specs.Walking as walking;
@@ -39,9 +40,10 @@ fn signed(is_below_zero: bool, size: u32) -> i32
 /// A number to a power that is a number.
 #[inline(always)]
 fn plain_number(link: Link, number: Number, rest: &[form_ast::Piece]) -> Option<Piece>
-    ensures { IfSome result (λ factor. (names : List Entry) → (w : walking.Walk) →
+    ensures sum { IfSome result (λ factor. (names : List Entry) → (w : walking.Walk) →
         walking.adds w link (walking.by_power names (walking.is_over link) rest.now (definition.number_base number) (definition.number (walking.is_over link) number (walking.power_at rest.now)))
         ≡ Ok (walking.at (w.pieces ++ factor ∷ []) Place.Sum w.calls)) }
+    ensures exactly { is_some result ≡ plain.is_plain_number number rest.now }
 {
     if number.value > LARGEST_NUMBER {
         return None;
@@ -71,6 +73,7 @@ fn plain_name(
         walking.adds w link (walking.by_power names.now (walking.is_over link) rest.now (definition.name_base names.now known.now (walking.is_over link) named.now) (definition.name names.now (walking.may_name w.calls stands) known.now (walking.is_over link) named.now (walking.power_at rest.now)))
         ≡ Ok (walking.at (w.pieces ++ factor ∷ []) Place.Sum w.calls)) }
     ensures alone { IfSome result (λ factor. definition.lone_named names.now named.now ≡ None) }
+    ensures exactly { is_some result ≡ plain.is_plain_name names.now known.now named.now rest.now }
 {
     let Named::Declared(spelled) = named else {
         return None;
@@ -98,6 +101,7 @@ fn plain_factor(
     ensures sum { IfSome result (λ factor. (stands : ℕ → Bool) → (w : walking.Walk) → walking.in_sum names.now stands known.now w piece.now rest.now ≡ Ok (walking.at (w.pieces ++ factor ∷ []) Place.Sum w.calls)) }
     ensures alone { IfSome result (λ factor. lone_of names.now (walking.alone_before rest.now piece.now) ≡ None) }
     ensures begins { IfSome result (λ factor. (walking.ends_call piece.now ≡ false) × (walking.field_of known.now piece.now ≡ None)) }
+    ensures exactly { is_some result ≡ plain.is_plain_factor names.now known.now piece.now rest.now }
 {
     match piece {
         form_ast::Piece::Number(link, number) => plain_number(*link, *number, rest),
@@ -118,6 +122,7 @@ impl Walk {
     ) -> Result<bool, AllocError>
         requires { self.old.calls + 1 < 2 ^ 64 }
         ensures plain { IfOk result (λ is_plain. (stands : ℕ → Bool) → IfPlain is_plain (walking.taken names.now stands known.now (walk_of self.old) piece.now rest.now) self.old self.new) }
+        ensures exactly { IfOk result (λ is_plain. is_plain ≡ plain.is_plain names.now known.now self.old.place piece.now rest.now) }
         ensures calls { OnOk result (self.new.calls ≤ self.old.calls + 1) }
     {
         match self.place {
@@ -139,6 +144,7 @@ impl Walk {
         requires place { self.old.place ≡ Place.Sum }
         requires calls { self.old.calls + 1 < 2 ^ 64 }
         ensures plain { IfOk result (λ is_plain. (stands : ℕ → Bool) → IfPlain is_plain (walking.in_sum names.now stands known.now (walk_of self.old) piece.now rest.now) self.old self.new) }
+        ensures exactly { IfOk result (λ is_plain. is_plain ≡ plain.is_plain_in_sum names.now known.now piece.now rest.now) }
         ensures calls { OnOk result (self.new.calls ≤ self.old.calls + 1) }
     {
         match piece {
@@ -170,6 +176,7 @@ impl Walk {
         rest: &[form_ast::Piece],
     ) -> Result<bool, AllocError>
         ensures plain { IfOk result (λ is_plain. (stands : ℕ → Bool) → IfPlain is_plain (walking.in_arguments names.now stands known.now (walk_of self.old) piece.now rest.now) self.old self.new) }
+        ensures exactly { IfOk result (λ is_plain. is_plain ≡ plain.is_plain_factor names.now known.now piece.now rest.now) }
         ensures calls { OnOk result (self.new.calls ≡ self.old.calls) }
     {
         match plain_factor(names, known, piece, rest) {
@@ -188,6 +195,7 @@ impl Walk {
     fn plain_call(&mut self, names: &Names, link: Link, named: &Named) -> Result<bool, AllocError>
         requires { self.old.calls + 1 < 2 ^ 64 }
         ensures plain { IfOk result (λ is_plain. (rest : List written.Piece) → IfPlain is_plain (walking.called names.now (walk_of self.old) link named.now rest) self.old self.new) }
+        ensures exactly { IfOk result (λ is_plain. is_plain ≡ plain.is_plain_call names.now named.now) }
         ensures calls { OnOk result (self.new.calls ≤ self.old.calls + 1) }
     {
         let Named::Declared(spelled) = named else {
@@ -214,6 +222,7 @@ impl Walk {
     fn plain_end(&mut self, rest: &[form_ast::Piece]) -> Result<bool, AllocError>
         requires { self.old.place ≡ Place.Sum }
         ensures plain { IfOk result (λ is_plain. (names : List Entry) → IfPlain is_plain (walking.call_ended names (walking.argument_ended (walk_of self.old)) rest.now) self.old self.new) }
+        ensures exactly { IfOk result (λ is_plain. is_plain ≡ plain.has_plain_power definition.largest_power rest.now) }
         ensures calls { OnOk result (self.new.calls ≤ self.old.calls) }
     {
         let Some((_, power)) = plain_power(rest, LARGEST_POWER) else {

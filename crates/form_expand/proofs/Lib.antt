@@ -1,6 +1,7 @@
 pub mod Alones
 pub mod Behind
 pub mod Called
+mod Counting
 pub mod Draining
 mod Ending
 pub mod Inverses
@@ -17,6 +18,7 @@ mod Moved
 mod Nearing
 pub mod NumberLists
 pub mod NumberPowers
+mod NumberStops
 pub mod NumberSums
 pub mod Parenthesized
 pub mod Places
@@ -26,6 +28,8 @@ pub mod Products
 pub mod Raised
 pub mod RowParts
 pub mod Rows
+mod Spent
+mod Stopping
 pub mod Streamed
 pub mod Taking
 pub mod Trees

@@ -13,6 +13,7 @@ use Rattle.form_term.specs.Term.{Call, order}
 use Rattle.form_collect.specs.Collecting.{collected}
 use Rattle.form_normal.specs.Product.{product_of, number_alone, function_alone, word_alone, StandsAlone}
 use Rattle.form_tree.specs.declared.tree.Piece.{Piece}
+use Rattle.form_tree.specs.declared.tree.Piece.TheVariants as pieces
 use Rattle.form_expand.specs.Calls.{called, IsFurther, AreCollected}
 use Rattle.form_expand.specs.Bound.{wild_list, wild_list_by}
 use Rattle.form_expand.specs.Listing.{Listing, single}
@@ -47,16 +48,20 @@ module _ (max : ℕ) (all : Meanings) where
       ∙ ap (λ args. list_of_call k (call f args)) (sym made.written)
 
   -- an expression begins
-  pub sum_argued : {E : Type 0} (r : Result (Option (Arguments × Bor (List Piece))) E) (ps : List Piece) (piece : Piece) (more : List Piece) (old : Arguments) → ps ≡ piece ∷ more → opens piece ≡ true
+  pub sum_argued : {E : Type 0} (r : Result (Option (Arguments × Bor (List Piece))) E) (ps : List Piece) (piece : Piece) (more : List Piece) (old : Arguments) → ps ≡ piece ∷ more → piece ≡ pieces.Argument
       → IfOk r (λ found. IfSome found (λ read. IsArguedWithin max all more old read.0 read.1.now)) → IfOk r (λ found. IfSome found (λ read. IsArgued max all ps old read.0 read.1.now))
-  sum_argued (Ok None) ps piece more old is opened h = tt
-  sum_argued (Ok (Some read)) ps piece more old is opened h = record {
+  sum_argued (Ok None) ps piece more old is begins h = tt
+  sum_argued (Ok (Some read)) ps piece more old is begins h = record {
     further = λ f k args e.
         let made = h.further f k args e in
-        record { now = made.now; written = made.written; read = ap (list_of_calling all (called max f k args)) is ∙ argument_opens all (called max f k args) piece more opened ∙ made.read };
+        record { now = made.now; written = made.written; read = ap (list_of_calling all (called max f k args)) is ∙ argument_opens all (called max f k args) piece more (ap opens begins) ∙ made.read };
+    first = pieces.Argument;
+    more = more;
+    begins = is ∙ ap (λ p. p ∷ more) begins;
+    behind = h.behind;
     shorter = omega (arith, ap length is, h.shorter);
   }
-  sum_argued (Err failed) ps piece more old is opened h = tt
+  sum_argued (Err failed) ps piece more old is begins h = tt
 
 -- the terms of a list are collected
 pub collected_kept : (found : Option (Vec Monomial)) (list : List Monomial) (l : Listing) → l ≡ all_of list

@@ -9,7 +9,7 @@ use Rattle.form_expand.specs.declared.whole.Whole.{Whole}
 use Rattle.form_expand.specs.Kept.{listing}
 use Rattle.form_expand.specs.Meanings.{Meanings}
 use Rattle.form_expand.specs.Listing.{Listing, nothing, single, before, limited, followed, signed, with_sign}
-use Rattle.form_expand.specs.Literals.{IsLiteral}
+use Rattle.form_expand.specs.Literals.{IsLiteral, ReadsProduct}
 use Rattle.form_expand.specs.Reading.{in_sum, fresh, read_from, list_of_pieces}
 use Rattle.form_expand.specs.Walks.{all_of}
 use Rattle.form_expand.proofs.Behind.{pieces_of_none, read_behind}
@@ -32,14 +32,14 @@ module _ (max : ℕ) (all : Meanings) where
       ap (limited max) (sym (ap (λ ms. followed (all_of ms) list) none ∙ followed_nothing list))
 
   -- a further product is read
-  pub sum_more : (whole : Listing) (terms made : List Monomial) (pieces rest : List Piece) (l : Literal) → IsLiteral max all pieces l rest
+  pub sum_more : (whole : Listing) (terms made : List Monomial) (pieces rest : List Piece) (l : Literal) → ReadsProduct max all pieces l rest
       → whole ≡ limited max (followed (all_of terms) (list_of_pieces max all pieces)) → made ≡ terms ++ with_sign l.is_minus l.term ∷ []
       → whole ≡ limited max (followed (all_of made) (list_of_pieces max all rest))
   sum_more whole terms made pieces rest l h e is =
       let behind = list_of_pieces max all rest in
       let term = with_sign l.is_minus l.term in
       e
-      ∙ ap (λ b. limited max (followed (all_of terms) b)) (h.list ∙ one_limited max max l.is_minus l.term behind (omega arith))
+      ∙ ap (λ b. limited max (followed (all_of terms) b)) (h ∙ one_limited max max l.is_minus l.term behind (omega arith))
       ∙ limited_followed_last max max (all_of terms) (followed (signed l.is_minus (single l.term)) behind) (omega arith)
       ∙ ap (λ b. limited max (followed (all_of terms) b)) (followed_before term nothing behind ∙ ap (before term) (followed_nothing behind))
       ∙ ap (limited max) (taken_on terms term behind)
@@ -68,9 +68,9 @@ module _ (max : ℕ) (all : Meanings) where
       (sym (sym (pieces_limited pieces) ∙ sum_begun pieces none empty)) h
 
   -- the first product is read
-  first_read : (pieces rest : List Piece) (l : Literal) (term : Monomial) → IsLiteral max all pieces l rest → term ≡ with_sign l.is_minus l.term
+  pub first_read : (pieces rest : List Piece) (l : Literal) (term : Monomial) → IsLiteral max all pieces l rest → term ≡ with_sign l.is_minus l.term
       → limited max (list_of_pieces max all pieces) ≡ limited max (followed (single term) (list_of_pieces max all rest))
-  first_read pieces rest l term h is = sum_more (limited max (list_of_pieces max all pieces)) [] (term ∷ []) pieces rest l h (sum_begun pieces [] refl) (ap (λ m. m ∷ []) is)
+  first_read pieces rest l term h is = sum_more (limited max (list_of_pieces max all pieces)) [] (term ∷ []) pieces rest l h.list (sum_begun pieces [] refl) (ap (λ m. m ∷ []) is)
 
   -- a sum of one product
   pub single_read : (pieces rest : List Piece) (l : Literal) (term : Monomial) → 1 ≤ max → rest ≡ [] → IsLiteral max all pieces l rest → term ≡ with_sign l.is_minus l.term → list_of_pieces max all pieces ≡ single term

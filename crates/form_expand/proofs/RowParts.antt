@@ -1,6 +1,5 @@
 -- The lists of a row, each within the limit.
-use Rattle.std.proofs.Common.{◌≡◌, ℕ, zero, suc, ◌<◌, ◌≤◌, Bool, true, false, List, [], ◌∷◌, ◌++◌, Option, Some, None, Result, Ok, Err, length, map, refl, sym, ap, subst, ◌∙◌, arith, append_assoc, append-nil}
-use Rattle.std.specs.Bool.{OnTrue}
+use Rattle.std.proofs.Common.{◌≡◌, ℕ, zero, suc, ◌<◌, ◌≤◌, List, [], ◌∷◌, ◌++◌, Option, Some, None, Result, Ok, Err, length, map, refl, sym, ap, subst, ◌∙◌, arith, append_assoc, append-nil}
 use Rattle.std.proofs.lemmas.List.{map-append}
 use Rattle.form_base.specs.declared.cause.Cause.{Cause}
 use Rattle.form_base.specs.declared.cause.Cause.TheVariants.{ExpandLimit}
@@ -14,16 +13,15 @@ use Rattle.form_expand.specs.declared.whole.Whole.{Whole}
 use Rattle.form_expand.specs.Kept.{listing, rest_at}
 use Rattle.form_expand.specs.Next.{Gives, IsMade}
 use Rattle.form_normal.specs.Product.{product_of}
-use Rattle.form_expand.specs.Left.{row, row_behind, times_by}
+use Rattle.form_expand.specs.Left.{row, row_behind}
 use Rattle.form_expand.specs.Listing.{Listing, nothing, single, refusal, before, before_by, limited, followed, times, times_each, pairs}
 use Rattle.form_expand.specs.Parts.{part_list}
 use Rattle.form_expand.specs.Singles.{once}
-use Rattle.form_expand.specs.Walks.{IsAlone, walk_left}
-use Rattle.form_expand.specs.declared.walk.Walk.{Walk}
+use Rattle.form_expand.specs.Walks.{IsAlone}
 use Rattle.form_expand.proofs.Behind.{limited_pieces}
 use Rattle.form_expand.proofs.Listings.{followed_last, limited_within, limited_again, limited_length, limited_none, limited_refusal, pairs_before, pairs_nothing, pairs_refusal}
 use Rattle.form_expand.proofs.Places.{spent}
-use Rattle.form_expand.proofs.Taking.{times_by_end, gives_last, gives_unmade}
+use Rattle.form_expand.proofs.Taking.{gives_last, gives_unmade}
 
 -- a list of a row as the limit cuts it
 abbrev pub bounded : ℕ → Part → Listing
@@ -128,11 +126,6 @@ row_of_part max m p f made is row_is =
     ∙ ap (λ l. row max (single m ∷ l ∷ [])) is
     ∙ sym (first_same max (single m) (bounded max p ∷ []))
     ∙ row_of_parts max m (p ∷ [])
-
--- a list that is spent, behind a term
-pub spent_pair : (b : Bool) (left : Option Monomial) (w : Walk) → OnTrue b ((max : ℕ) → walk_left max w ≡ nothing) → OnTrue b ((max : ℕ) → times_by left (walk_left max w) ≡ nothing)
-spent_pair true left w h = λ max. ap (times_by left) (h max) ∙ times_by_end left None
-spent_pair false left w h = tt
 
 -- A term and a list of one term.
 

@@ -205,9 +205,11 @@ impl<'a> Factor<'a> {
         }
     }
 
-    /// Whether it surely has no further term.
+    /// Whether it is a list that is there as a whole, has no further term, and isn't refused behind the last.
     pub fn is_spent(&self) -> bool
-        ensures { OnTrue result ((max : ℕ) → factor_left max self.now ≡ nothing) }
+        ensures left { OnTrue result ((max : ℕ) → factor_left max self.now ≡ nothing) }
+        ensures exactly { is_once self.now ≡ true → ((max : ℕ) → factor_left max self.now ≡ nothing) → result ≡ true }
+        ensures once { result ≡ true → is_once self.now ≡ true }
     {
         match self {
             Factor::Once(walk) => walk.is_spent(),

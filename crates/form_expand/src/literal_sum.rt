@@ -1,8 +1,9 @@
 //! Sums of products each of which is one term, read at once.
-ghost use Rattle.std.specs.Prelude.{◌≡◌, ◌≤◌, IfOk, IfSome};
+ghost use Rattle.std.specs.Prelude.{◌≡◌, ◌⊎◌, ◌≤◌, true, [], ◌∷◌, length, is_some, None, Ok, IfOk, IfSome};
 ghost use Rattle.form_expand.specs.Kept.{listing};
 ghost use Rattle.form_expand.specs.Listing.{followed, limited, single};
 ghost use Rattle.form_expand.specs.Reading.{list_of_pieces};
+ghost use Rattle.form_expand.specs.Stops.{StopsList, StopsSum, StopsTerms, begun_at, deepest, most_pieces, products_within};
 ghost use Rattle.form_expand.specs.Walks.{all_of};
 
 use crate::literal::{DEEPEST, read_literal};
@@ -15,8 +16,8 @@ use std::alloc::{AllocError, Global};
 /// How many pieces a sum may have that is read at once, whatever its products are of.
 pub const MOST_PIECES: usize = 64;
 
-/// The terms of the sum of these pieces; none where it gives up, as where it doesn't come to its end, or has more than
-/// `most` products, or others than of numbers and symbols.
+/// The terms of the sum of these pieces; none where it doesn't come to its end, or has more than `most` products, or others
+/// than of numbers and symbols.
 pub fn literal_sum(
     alloc: Global,
     names: &Standing,
@@ -24,7 +25,9 @@ pub fn literal_sum(
     limit: u64,
     most: usize,
 ) -> Result<Option<Vec<Monomial>>, AllocError>
-    ensures { IfOk result (λ found. IfSome found (λ terms. list_of_pieces limit names.now pieces.now ≡ all_of terms.items)) }
+    ensures some { IfOk result (λ found. IfSome found (λ terms. list_of_pieces limit names.now pieces.now ≡ all_of terms.items)) }
+    ensures none { result ≡ Ok None → (products_within most pieces.now ≡ None) ⊎ StopsTerms limit names.now (StopsSum limit names.now deepest) [] pieces.now }
+    ensures few { IfOk result (λ found. IfSome found (λ terms. is_some (products_within most pieces.now) ≡ true)) }
 {
     let Some(count) = products(pieces, most) else {
         return Ok(None);
@@ -33,14 +36,16 @@ pub fn literal_sum(
     literal_terms(alloc, names, none, pieces, limit, DEEPEST)
 }
 
-/// The list of the sum of these pieces, where each of its products surely is a term and there are few.
+/// The list of the sum of these few pieces, where each of its products is a term that is read at once.
 pub fn literal_list(
     alloc: Global,
     names: &Standing,
     pieces: &[Piece],
     limit: u64,
 ) -> Result<Option<Whole<'static>>, AllocError>
-    ensures { IfOk result (λ found. IfSome found (λ whole. list_of_pieces limit names.now pieces.now ≡ listing whole)) }
+    ensures some { IfOk result (λ found. IfSome found (λ whole. list_of_pieces limit names.now pieces.now ≡ listing whole)) }
+    ensures none { result ≡ Ok None → StopsList limit names.now pieces.now }
+    ensures few { IfOk result (λ found. IfSome found (λ whole. length pieces.now ≤ most_pieces)) }
 {
     if limit == 0 {
         return Ok(None);
@@ -58,7 +63,7 @@ pub fn literal_list(
     list_behind(alloc, names, first, rest, limit)
 }
 
-/// The same of a term and the sum of these pieces behind it.
+/// The list of a term and the sum of these pieces behind it, where each of its products is a term that is read at once.
 fn list_behind(
     alloc: Global,
     names: &Standing,
@@ -66,7 +71,8 @@ fn list_behind(
     pieces: &[Piece],
     limit: u64,
 ) -> Result<Option<Whole<'static>>, AllocError>
-    ensures { IfOk result (λ found. IfSome found (λ whole. limited limit (followed (single first) (list_of_pieces limit names.now pieces.now)) ≡ listing whole)) }
+    ensures some { IfOk result (λ found. IfSome found (λ whole. limited limit (followed (single first) (list_of_pieces limit names.now pieces.now)) ≡ listing whole)) }
+    ensures none { result ≡ Ok None → StopsTerms limit names.now (StopsSum limit names.now deepest) (first ∷ []) pieces.now }
 {
     let mut terms = Vec::with_capacity(alloc, 2)?;
     terms.push(first)?;
@@ -76,8 +82,8 @@ fn list_behind(
     }
 }
 
-/// These terms and those of the sum of these pieces behind them, where each of its products surely is a term and it comes to
-/// its end.
+/// These terms and those of the sum of these pieces behind them, where each of its products is a term that is read at once
+/// and it comes to its end.
 #[cycle(literal)]
 pub fn literal_terms(
     alloc: Global,
@@ -87,7 +93,8 @@ pub fn literal_terms(
     limit: u64,
     deeper: u64,
 ) -> Result<Option<Vec<Monomial>>, AllocError>
-    ensures { IfOk result (λ found. IfSome found (λ made. limited limit (followed (all_of terms.items) (list_of_pieces limit names.now pieces.now)) ≡ all_of made.items)) }
+    ensures some { IfOk result (λ found. IfSome found (λ made. limited limit (followed (all_of terms.items) (list_of_pieces limit names.now pieces.now)) ≡ all_of made.items)) }
+    ensures none { result ≡ Ok None → StopsTerms limit names.now (StopsSum limit names.now deeper) terms.items pieces.now }
 {
     let mut made = terms;
     let mut rest = pieces;
@@ -104,24 +111,36 @@ pub fn literal_terms(
     Ok(Some(made))
 }
 
-/// Room for the products of the sum of these pieces, not more than `most`; none where it gives up, as where there are more
-/// or a factor is neither a number nor a symbol.
+/// How many products the sum of these pieces has; none where there are more than `most`, or a factor is neither a number nor
+/// a symbol.
 fn products(pieces: &[Piece], most: usize) -> Option<usize>
-    ensures { IfSome result (λ count. count ≤ most) }
+    ensures { result ≡ products_within most pieces.now }
 {
     let mut count = 0;
     for piece in pieces {
-        match piece {
-            Piece::Number { link, .. } | Piece::Symbol { link, .. } => {
-                if *link != Link::Times {
-                    if count >= most {
-                        return None;
-                    }
-                    count += 1;
-                }
-            }
-            _ => return None,
+        let Some(begun) = begun_by(piece) else {
+            return None;
+        };
+        if begun > most - count {
+            return None;
         }
+        count += begun;
     }
     Some(count)
+}
+
+/// How many products a piece begins; none where it is neither a number nor a symbol.
+fn begun_by(piece: &Piece) -> Option<usize>
+    ensures { result ≡ begun_at piece.now }
+{
+    match piece {
+        Piece::Number { link, .. } | Piece::Symbol { link, .. } => {
+            if *link == Link::Times {
+                Some(0)
+            } else {
+                Some(1)
+            }
+        }
+        _ => None,
+    }
 }

@@ -1,9 +1,6 @@
 //! A term times a right side that is one commuting function.
-ghost use Rattle.std.specs.Prelude.{◌≡◌, ◌↔◌, ◌≤◌, ◌<◌, true, IfOk, IfSome, IsTrue, length};
-ghost use Rattle.form_expand.specs.Listing.{limited};
-ghost use Rattle.form_expand.specs.LoneFunctions.{IsTimed};
-ghost use Rattle.form_expand.specs.Reading.{list_of_pieces};
-ghost use Rattle.form_expand.specs.Singles.{list_of_call};
+ghost use Rattle.std.specs.Prelude.{◌≡◌, ◌↔◌, ◌≤◌, ◌<◌, true, None, Ok, IfOk, IfSome, IsTrue, length};
+ghost use Rattle.form_expand.specs.LoneFunctions.{IsLoneFunction, IsTimed, StopsLone};
 
 use crate::literal::{DEEPEST, closing_once};
 use crate::literal_arguments::literal_arguments;
@@ -40,14 +37,15 @@ pub fn times_lone_function(
     Ok(Timed::Made(made))
 }
 
-/// The function that these pieces are, where a row may have a term; none where it gives up.
+/// The function that these pieces are, where a row may have a term.
 fn lone_function(
     alloc: Global,
     pieces: &[Piece],
     limit: u64,
     names: &Standing,
 ) -> Result<Option<Call>, AllocError>
-    ensures { IfOk result (λ found. IfSome found (λ call. (list_of_pieces limit names.now pieces.now ≡ limited limit (list_of_call true call)) × (0 < limit))) }
+    ensures some { IfOk result (λ found. IfSome found (λ call. IsLoneFunction limit names.now pieces.now call)) }
+    ensures none { result ≡ Ok None → StopsLone limit names.now pieces.now }
 {
     if limit == 0 {
         return Ok(None);

@@ -1,5 +1,4 @@
-ghost use Rattle.std.specs.Prelude.{◌≡◌, ◌≤◌, [], ◌++◌, ℕ, Some, None, Ok, IfOk, IfSome, OnOk, map, option_to_list};
-ghost use Rattle.std.specs.Bool.{OnTrue};
+ghost use Rattle.std.specs.Prelude.{◌≡◌, ◌↔◌, ◌≤◌, [], ◌++◌, ℕ, Some, None, Ok, IfOk, IfSome, IsTrue, OnOk, map, option_to_list};
 ghost use Rattle.form_term.specs.declared.monomial.Monomial.{Monomial as Item};
 ghost use Rattle.form_term.specs.Term.{one};
 ghost use Rattle.form_expand.specs.Kept.{listing};
@@ -64,9 +63,9 @@ fn term_power<'a>(alloc: Global, term: &Monomial, power: u128) -> Result<Whole<'
     Ok(Whole::single(made))
 }
 
-/// Whether a term surely has no factors.
+/// Whether a term has no factors.
 fn is_one(term: &Term) -> bool
-    ensures { OnTrue result (term.now ≡ one) }
+    ensures { IsTrue result ↔ (term.now ≡ one) }
 {
     term.powers().is_empty() && term.dots().is_empty() && is_invertible(term)
 }

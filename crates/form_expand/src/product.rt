@@ -1,5 +1,5 @@
-ghost use Rattle.std.specs.Prelude.{◌≡◌, ◌⊎◌, ◌++◌, ℕ, suc, [], ◌∷◌, Some, None, IfOk, OnOk, map, option_to_list};
-ghost use Rattle.form_expand.specs.Factors.{factor_left, factor_whole};
+ghost use Rattle.std.specs.Prelude.{◌≡◌, ◌⊎◌, ◌++◌, ℕ, suc, true, [], ◌∷◌, Some, None, IfOk, OnOk, map, option_to_list};
+ghost use Rattle.form_expand.specs.Factors.{factor_left, factor_whole, is_once};
 ghost use Rattle.form_expand.specs.Left.{left_of_levels, row};
 ghost use Rattle.form_expand.specs.Listing.{nothing, powers};
 ghost use Rattle.form_expand.specs.Moving.{Lessens, Nears};
@@ -22,7 +22,7 @@ use std::mem;
 #[derive(Drop)]
 pub struct Level<'a> {
     pub factor: Factor<'a>,
-    /// The term of the front before it that its terms are paired with, none at the first factor.
+    /// The term of the front before it that its terms are paired with, none at the first factor, nor once it was let go.
     pub left: Option<Monomial>,
     /// How many terms the front up to it has had.
     pub count: u64,
@@ -67,9 +67,11 @@ impl<'a> Level<'a> {
         Ok(Some(term))
     }
 
-    /// Lets the term before it go where it has no further term, so that a long product keeps few of them.
+    /// Lets the term before it go where its factor is a list that is there as a whole, has no further term, and isn't refused
+    /// behind the last, so that a long product keeps few of them.
     fn release(&mut self)
-        ensures { (max : ℕ) → level_of max self.new ≡ level_of max self.old }
+        ensures same { (max : ℕ) → level_of max self.new ≡ level_of max self.old }
+        ensures let_go { is_once self.old.factor ≡ true → ((max : ℕ) → factor_left max self.old.factor ≡ nothing) → self.new.left ≡ None }
     {
         if self.factor.is_spent() {
             self.left = None;

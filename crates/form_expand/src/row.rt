@@ -1,6 +1,5 @@
 //! A row of lists that are paired from the left: a term, and behind it lists of several kinds.
 ghost use Rattle.std.specs.Prelude.{◌≡◌, ◌∷◌, [], ℕ, IfOk, map};
-ghost use Rattle.std.specs.Bool.{OnTrue};
 ghost use Rattle.form_expand.specs.Factors.{factor_whole};
 ghost use Rattle.form_expand.specs.Kept.{listing};
 ghost use Rattle.form_expand.specs.Left.{row};
@@ -81,13 +80,6 @@ impl Pair<'_> {
             None => self.walk.next_times(alloc, limit, &self.left),
         }
     }
-
-    /// Whether there surely is no further term.
-    fn is_spent(&self) -> bool
-        ensures { OnTrue result ((max : ℕ) → pair_left max self.now ≡ nothing) }
-    {
-        self.walk.is_spent()
-    }
 }
 
 /// The lists of a row.
@@ -128,16 +120,6 @@ impl<'a> Lists<'a> {
         match self {
             Lists::Two(pair) => pair.next(alloc, limit),
             Lists::Several(product) => product.next(alloc, limit, u64::MAX),
-        }
-    }
-
-    /// Whether there surely is no further term.
-    fn is_spent(&self) -> bool
-        ensures { OnTrue result ((max : ℕ) → lists_left max self.now ≡ nothing) }
-    {
-        match self {
-            Lists::Two(pair) => pair.is_spent(),
-            Lists::Several(_) => false,
         }
     }
 }
@@ -240,12 +222,5 @@ impl<'a> Row<'a> {
         ensures { Gives result self.old self.new }
     {
         self.lists.next(alloc, self.limit)
-    }
-
-    /// Whether there surely is no further term.
-    pub fn is_spent(&self) -> bool
-        ensures { OnTrue result (self.now ≡ nothing) }
-    {
-        self.lists.is_spent()
     }
 }

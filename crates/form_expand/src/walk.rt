@@ -1,4 +1,4 @@
-ghost use Rattle.std.specs.Prelude.{◌≡◌, ◌↔◌, ℕ, IsTrue, OnOk, Some};
+ghost use Rattle.std.specs.Prelude.{◌≡◌, ◌↔◌, ℕ, true, IsTrue, OnOk, Some};
 ghost use Rattle.std.specs.Bool.{OnTrue};
 ghost use Rattle.form_expand.specs.Listing.{nothing};
 ghost use Rattle.form_expand.specs.Left.{times_by};
@@ -40,9 +40,10 @@ impl<'a> Walk<'a> {
         self.count = 0;
     }
 
-    /// Whether it surely has no further term, and isn't refused behind the last.
+    /// Whether it has no further term, and isn't refused behind the last.
     pub fn is_spent(&self) -> bool
-        ensures { OnTrue result ((max : ℕ) → walk_left max self.now ≡ nothing) }
+        ensures left { OnTrue result ((max : ℕ) → walk_left max self.now ≡ nothing) }
+        ensures exactly { ((max : ℕ) → walk_left max self.now ≡ nothing) → result ≡ true }
     {
         self.whole.end.is_none() && self.place >= self.whole.len()
     }

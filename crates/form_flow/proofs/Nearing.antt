@@ -129,13 +129,6 @@ module _ (n : ℕ) (s : State) (none : s.waiting ≡ None) (f : Frame) (m : Mono
       ∙ both (n - f.behind == k) 1 (2 * length next.terms + 1) (frames_weight n s k))
       (λ k. with_none n s f k none)
 
-  -- and was the last
-  pub row_last_nearer : IsNearer (weight_in n (record { given = s.given; waiting = Some (record { item = m; behind = f.behind }); frames = s.frames })) (weight_with n f s)
-  unfolding weight_in
-  row_last_nearer =
-      falls_at (weight_in n (record { given = s.given; waiting = Some (record { item = m; behind = f.behind }); frames = s.frames })) (weight_with n f s) (frames_weight n s)
-      (n - f.behind) 1 (2 * length f.row.value.terms + 1) (omega (arith, one_less)) (λ k. refl) (λ k. with_none n s f k none)
-
 pub row_off_nearer : (n : ℕ) (s : State) (f : Frame) → s.waiting ≡ None → IsNearer (weight_in n s) (weight_with n f s)
 row_off_nearer n s f none =
     goes_at (weight_in n s) (weight_with n f s) (frames_weight n s) (n - f.behind) (2 * length f.row.value.terms + 1) (omega arith)

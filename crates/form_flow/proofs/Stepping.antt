@@ -63,13 +63,6 @@ module _ (laws : Laws) (limits : Limits) (go : Monomial → Listing) (k : ℕ) (
       (sym (laws.associative (go m) (through go next) rest)
       ∙ sym (ap (λ x. followed x rest) (ap (through go) is ∙ through_before go m next)))
 
-  -- and where that was the last
-  pub row_gives_last : (m : Monomial) (l next : Listing) → l ≡ before m next → next ≡ nothing
-      → limited k (followed (go m) rest) ≡ limited k (followed (through go l) rest)
-  row_gives_last m l next is none =
-      ap (λ x. limited k (followed (go m) x)) (sym (ap (λ x. followed x rest) (ap (through go) none ∙ through_nothing go) ∙ laws.first rest))
-      ∙ row_gives m l next is
-
   pub row_ends : (l : Listing) → l ≡ nothing → limited k rest ≡ limited k (followed (through go l) rest)
   row_ends l is = ap (limited k) (sym (ap (λ x. followed x rest) (ap (through go) is ∙ through_nothing go) ∙ laws.first rest))
 
@@ -148,11 +141,6 @@ module _ (laws : Laws) (limits : Limits) (max : ℕ) (s : State) (pss : List (Li
       ap (λ x. limited (max - s.given) (followed (go m) x)) (one_frame max pss s.frames.items pushed.items g put)
       ∙ ap (λ n. limited (max - s.given) (followed (go m) (followed (through (carried max (drop n pss)) g.row.value) rest))) same
       ∙ row_gives laws limits go (max - s.given) rest m f.row.value g.row.value is
-
-  pub row_last : (m : Monomial) (next : Listing) → f.row.value ≡ before m next → next ≡ nothing
-      → left_in max (record { given = s.given; waiting = Some (record { item = m; behind = f.behind }); frames = s.frames }) pss ≡ left_with max f s pss
-  unfolding left_in
-  row_last m next is done = row_gives_last laws limits (carried max (drop f.behind pss)) (max - s.given) (left_of_frames max pss s.frames.items) m f.row.value next is done
 
   pub row_off : f.row.value ≡ nothing → left_in max s pss ≡ left_with max f s pss
   row_off is =

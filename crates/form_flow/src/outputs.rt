@@ -216,7 +216,7 @@ fn next_of_frame(alloc: Global, limit: u64, state: &mut State<'_>) -> Result<Ste
     next_of_row(alloc, frame, state)
 }
 
-/// The next term of the row of a statement that acted. The row is kept where there may be another one behind it.
+/// The next term of the row of a statement that acted. The row is kept behind it.
 #[tactic(none)]
 fn next_of_row<'a>(
     alloc: Global,
@@ -235,9 +235,6 @@ fn next_of_row<'a>(
     match row.next(alloc) {
         Ok(Some(item)) => {
             state.waiting = Some(Waiting { item, behind });
-            if row.is_spent() {
-                return Ok(Step::Moves);
-            }
             state.frames.push(Frame { row, behind })?;
             Ok(Step::Moves)
         }

@@ -29,7 +29,7 @@ returns-then-is_one-clause-some c =
     let f = m.coefficient in
     let alone = c.if-not-is_alone.ensures.0 refl in
     let one = one_item c.terms.result.now m c.in-len1.len_at_least c.in-len1.len_below c.term-item.is in
-    let number = ap (λ t. record { coefficient = f; term = t }) c.if-is_one.ensures in
+    let number = ap (λ t. record { coefficient = f; term = t }) (c.if-is_one.ensures.0 refl) in
     ap (limited max) c.fraction_list.ensures
     ∙ number_powered max alone.some f c.args.power c.requires
     ∙ ap (λ l. powers max l c.args.power) (sym (alone_list (listing c.args.whole.now) c.terms.result.now m (number_alone f) alone.done c.terms.ensures one number))

@@ -1,20 +1,10 @@
-use Rattle.std.proofs.Common.{◌≡◌, Err, refl, rules, subst, sym, ◌∙◌}
+use Rattle.std.proofs.Common.{Err, refl, subst, sym, ◌∙◌}
 use Rattle.std.proofs.lemmas.Result.{err_from_is_err_and}
-use Rattle.form_expand.specs.Listing.{Listing, nothing}
+use Rattle.form_expand.specs.Listing.{Listing}
 use Rattle.form_expand.specs.Next.{Gives}
-use Rattle.form_flow.proofs.Nearing.{row_last_nearer, row_off_nearer, row_on_nearer}
-use Rattle.form_flow.proofs.Stepping.{row_err, row_last, row_off, row_on}
+use Rattle.form_flow.proofs.Nearing.{row_off_nearer, row_on_nearer}
+use Rattle.form_flow.proofs.Stepping.{row_err, row_off, row_on}
 use Rattle.form_flow.proofs.outputs.next_of_row.Goals as goal
-
-pub returns-then-is_spent-clause-left : goal.returns-then-is_spent-clause-left
-returns-then-is_spent-clause-left c = λ max pss.
-    let f = c.following_lists.ensures in
-    let l = c.limited_lists.ensures in
-    let done : c.next.new.self ≡ nothing = search rules in
-    row_last (record { associative = f.associative; first = f.first; begun = f.begun; refused = f.refused })
-    (record { begun = l.begun; beyond = l.beyond; none = l.none; refused = l.refused })
-    max c.args.state.now pss c.requires c.args.frame c.in-Ok-Some.item c.next.new.self
-    (sym c.deref_mut.ensures.value ∙ rw c.in-Ok-Some.field-0-is at c.in-Ok-Some.ensures) done
 
 pub returns-in_err-push-in-Ok-Some-clause-left : goal.returns-in_err-push-in-Ok-Some-clause-left
 returns-in_err-push-in-Ok-Some-clause-left c = λ max pss.
@@ -45,11 +35,6 @@ returns-in-Err-clause-left c = λ max pss.
     row_err (record { associative = f.associative; first = f.first; begun = f.begun; refused = f.refused })
     (record { begun = l.begun; beyond = l.beyond; none = l.none; refused = l.refused })
     max c.args.state.now pss c.requires c.args.frame c.next.new.self _ c.in-Err.error (subst (λ (l : Listing). Gives (Err c.in-Err.error) l c.next.new.self) c.deref_mut.ensures.value c.in-Err.ensures)
-
-pub returns-then-is_spent-clause-nearer : goal.returns-then-is_spent-clause-nearer
-returns-then-is_spent-clause-nearer c = λ n.
-    row_last_nearer n c.args.state.now c.requires c.args.frame c.in-Ok-Some.item c.next.new.self
-    (sym c.deref_mut.ensures.value ∙ rw c.in-Ok-Some.field-0-is at c.in-Ok-Some.ensures)
 
 pub returns-in_err-push-in-Ok-Some-clause-nearer : goal.returns-in_err-push-in-Ok-Some-clause-nearer
 returns-in_err-push-in-Ok-Some-clause-nearer c = λ n.
