@@ -14,7 +14,7 @@ use Rattle.form_ast.specs.declared.expr.Power.{Power}
 use Rattle.form_ast.specs.declared.expr.Spelled.{Spelled}
 use Rattle.form_ast.specs.Syntax as syntax
 use Rattle.form_tree.specs.declared.tree.Link.{Link}
-use Rattle.form_tree.specs.declared.tree.Link.TheVariants.{Times}
+use Rattle.form_tree.specs.declared.tree.Link.TheVariants.{Plus, Times}
 use Rattle.form_tree.specs.declared.tree.Piece as resolved
 use Rattle.form_tree.specs.declared.tree.Piece.TheVariants as pieces
 use Rattle.form_tree.specs.declared.tree.Base as bases
@@ -384,7 +384,9 @@ module _ (names : List Entry) (stands : ℕ → Bool) where
   linked-index-base-sound i (an_end.Index j) h k = one-piece (by_base.Delta i (by_index.Declared j)) (h, k)
 
   linked-base-sound : (a b : ends.End) → IsEndSound a → IsEndSound b → IsRaisedSound (linked_base a b)
-  linked-base-sound (an_end.Vector p) (an_end.Vector q) h k = one-piece (by_base.Dot p q) (h, k)
+  linked-base-sound (an_end.Vector p) (an_end.Vector q) h k =
+      λ link by is_symbol. All-cons P (pieces.Open link) (pieces.Dot Plus p q (pos 1) ∷ pieces.CloseRaised by ∷ []) tt
+      (two (pieces.Dot Plus p q (pos 1)) (pieces.CloseRaised by) (h, k, leb-true 1 largest_exponent refl) is_symbol)
   linked-base-sound (an_end.Vector p) (an_end.Fixed n) h k = one-piece (by_base.Component (record { vector = p; index = by_index.Fixed n })) (h, k)
   linked-base-sound (an_end.Vector p) (an_end.Index i) h k = one-piece (by_base.Component (record { vector = p; index = by_index.Declared i })) (h, k)
   linked-base-sound (an_end.Fixed n) b h k = linked-index-base-sound (by_index.Fixed n) b h k

@@ -1,12 +1,12 @@
 -- The program that a text is, over Ids, or the first refusal in the order of the text.
 use Rattle.std.specs.Prelude.{ℕ, Bool, false, nat_lt, nat_le, if◌then◌else◌, List, [], ◌∷◌, ◌++◌, length, Option, Some, None, Result, Ok, Err}
-use Rattle.form_base.specs.declared.cause.Cause.TheVariants.{StatementOrder, Undeclared, Redeclared, WrongKind, NumberRange}
+use Rattle.form_base.specs.declared.cause.Cause.TheVariants.{StatementOrder, Redeclared, NumberRange}
 use Rattle.form_names.specs.declared.elements.Elements.{Elements}
 use Rattle.form_names.specs.declared.kind.Kind.{Kind}
 use Rattle.form_names.specs.declared.kind.Kind.TheVariants.{Symbol, Vector, Index, Function, CommutingFunction, Expression}
 use Rattle.form_names.specs.declared.kind.Dimension.{Dimension}
 use Rattle.form_names.specs.declared.kind.Dimension.TheVariants as dimensions
-use Rattle.form_names.specs.Names.{Entry, lookup, kind_at, declare, declare_set, largest_dimension}
+use Rattle.form_names.specs.Names.{Entry, lookup, declare, declare_set, largest_dimension}
 use Rattle.form_ast.specs.declared.expr.Spelled.{Spelled}
 use Rattle.form_ast.specs.declared.expr.Expr.{Expr}
 use Rattle.form_ast.specs.declared.index_list.Dimension as written_dimension

@@ -342,6 +342,11 @@ name_base names known is_over (Declared s) = found names s >>= (λ f. base_by_ki
 abbrev pub dot_base : List Entry → Named → Named → Result tree.Base Refusal
 dot_base names p q = vector names p >>= (λ left. vector names q >>= (λ right. Ok (tree.dot_base left right)))
 
+-- The dot product that `p(q)` and `d_(p,q)` are. Below such a power it stands in parentheses, so that the power has the limits
+-- of one behind parentheses, and not those of a power of `p.q`.
+abbrev pub enclosed_dot : ℕ → ℕ → tree.Base
+enclosed_dot p q = tree.parenthesis_base (tree.first false (tree.one (tree.dot p q (pos 1))))
+
 -- an index and an end, and two ends, as below such a power
 abbrev pub linked_index_base : indices.Index → ends.End → tree.Base
 linked_index_base i (an_end.Vector p) = tree.component_base (record { vector = p; index = i })
@@ -349,7 +354,7 @@ linked_index_base i (an_end.Fixed n) = tree.delta_base i (by_index.Fixed n)
 linked_index_base i (an_end.Index j) = tree.delta_base i (by_index.Declared j)
 
 abbrev pub linked_base : ends.End → ends.End → tree.Base
-linked_base (an_end.Vector p) (an_end.Vector q) = tree.dot_base p q
+linked_base (an_end.Vector p) (an_end.Vector q) = enclosed_dot p q
 linked_base (an_end.Vector p) (an_end.Fixed n) = tree.component_base (record { vector = p; index = by_index.Fixed n })
 linked_base (an_end.Vector p) (an_end.Index i) = tree.component_base (record { vector = p; index = by_index.Declared i })
 linked_base (an_end.Fixed n) e = linked_index_base (by_index.Fixed n) e

@@ -1,5 +1,5 @@
 -- Going through the pieces of a right side from the front, piece by piece. That this gives what RightSide says is proved.
-use Rattle.std.specs.Prelude.{◌≡◌, ℕ, ◌+◌, ◌-◌, Bool, true, false, ◌==◌, ◌&&◌, pos, if◌then◌else◌, List, [], ◌∷◌, ◌++◌, Option, Some, None, option_map, Result, Ok, Err}
+use Rattle.std.specs.Prelude.{◌≡◌, ℕ, ◌+◌, ◌-◌, Bool, true, false, ◌==◌, ◌&&◌, if◌then◌else◌, List, [], ◌∷◌, ◌++◌, Option, Some, None, option_map, Result, Ok, Err}
 use Rattle.form_names.specs.Names.{Entry}
 use Rattle.form_ast.specs.declared.expr.Link.{Link}
 use Rattle.form_ast.specs.declared.expr.Link.TheVariants as links
@@ -19,13 +19,15 @@ use Rattle.form_tree.specs.declared.tree.Exponent.{Exponent}
 use Rattle.form_tree.specs.Tree as tree
 use Rattle.form_check.specs.declared.resolved.End as ends
 use Rattle.form_check.specs.declared.resolved.End.TheVariants as an_end
+use Rattle.form_check.specs.declared.resolved.Linked as linked_ends
+use Rattle.form_check.specs.declared.resolved.Linked.TheVariants as a_link
 use Rattle.form_check.specs.declared.resolved.Head as heads
 use Rattle.form_check.specs.declared.resolved.Head.TheVariants as a_head
 use Rattle.form_check.specs.declared.walk.Place.{Place}
 use Rattle.form_check.specs.declared.walk.Place.TheVariants as places
 use Rattle.form_check.specs.declared.walk.Walk as walks
 use Rattle.form_check.specs.Refusal.{Refusal, ◌>>=◌}
-use Rattle.form_check.specs.RightSide.{Known, field_number, is_minus, symbol_named, number_base, name_base, linked_base, largest_exponent, largest_power, size_within, exponent, spelled_of, wrong, wrong_kind, misplaced, delta_at, named_end, fixed_end, number, name, vector, end, linked_to, head, lone, nothing_known, none_stands}
+use Rattle.form_check.specs.RightSide.{Known, field_number, is_minus, symbol_named, number_base, name_base, linked_base, enclosed_dot, largest_exponent, largest_power, size_within, exponent, spelled_of, wrong, wrong_kind, misplaced, delta_at, number, name, vector, end, linked_to, head, lone, nothing_known}
 
 -- how a factor stands to what is before it, where a division is left to its power
 abbrev pub link_of : Link → resolved_link.Link
@@ -98,6 +100,11 @@ base_of (by_base.Dot left right) = tree.dot_base left right
 base_of by_base.Imaginary = tree.imaginary_base
 base_of (by_base.Component c) = tree.component_base c
 base_of (by_base.Delta i j) = tree.delta_base i j
+
+-- two ends below such a power
+abbrev pub linked_of : linked_ends.Linked → tree.Base
+linked_of (a_link.Piece base) = base_of base
+linked_of (a_link.Dot left right) = enclosed_dot left right
 
 -- a base to a power that is a name
 abbrev pub raised : List Entry → Bool → Option Sign × Named → Result tree.Base Refusal → Result tree.Factor Refusal

@@ -1,7 +1,7 @@
 //! Dot products, deltas and components of a right side.
 ghost use Rattle.std.specs.Prelude.{◌≡◌, ◌≤◌, ◌∷◌, [], OnOk, Ok};
 ghost use Rattle.form_check.specs.Refusal.{Gives};
-ghost use Rattle.form_check.specs.RightSide.{linked as linked_factor, linked_index as linked_index_factor, linked_to, largest_power, linked_base as linked_base_of};
+ghost use Rattle.form_check.specs.RightSide.{linked as linked_factor, linked_index as linked_index_factor, linked_to, largest_power, linked_base as linked_base_of, enclosed_dot};
 ghost use Rattle.form_check.specs.Walking as walking;
 ghost use Rattle.form_check.specs.Walking.{walk_of, adds, dot_to};
 ghost use Rattle.form_tree.specs.Tree as tree;
@@ -10,10 +10,10 @@ use crate::CheckError;
 use crate::ahead::power_at;
 use crate::kinds::{alone_end, entry_end, vector};
 use crate::powers::{LARGEST_EXPONENT, LARGEST_POWER, exponent, is_over, link_of, size_of};
-use crate::raised::{linked_base, name_power};
-use crate::resolved::End;
+use crate::raised::{exponent_of, linked_base, name_power, symbol_named};
+use crate::resolved::{End, Linked};
 use crate::walk::{Place, Walk};
-use form_ast::Link;
+use form_ast::{Link, Named, Sign};
 use form_base::Id;
 use form_names::Names;
 use form_term::{Component, Index};
@@ -91,7 +91,39 @@ impl Walk {
             self.add(linked(link_of(link), a, b, size))?;
             return Ok(());
         };
-        self.raise(alloc, names, link, linked_base(a, b), sign, by)
+        match linked_base(a, b) {
+            Linked::Piece(base) => self.raise(alloc, names, link, base, sign, by),
+            Linked::Dot(left, right) => self.enclose(alloc, names, link, left, right, sign, by),
+        }
+    }
+
+    /// A dot product in parentheses, to a power that is a name.
+    fn enclose(
+        &mut self,
+        alloc: Global,
+        names: &Names,
+        link: Link,
+        left: Id,
+        right: Id,
+        sign: Option<Sign>,
+        by: &Named,
+    ) -> Result<(), CheckError>
+        ensures gives { Gives (λ _. walk_of self.new) result (adds (walk_of self.old) link (walking.raised names.now (walking.is_over link) (sign, by.now) (Ok (enclosed_dot left right)))) }
+        ensures calls { OnOk result (self.new.calls ≡ self.old.calls) }
+    {
+        let symbol = symbol_named(alloc, names, by)?;
+        let exponent = exponent_of(is_over(link), sign, symbol);
+        self.add(Piece::Open {
+            link: link_of(link),
+        })?;
+        self.add(Piece::Dot {
+            link: form_tree::Link::Plus,
+            left,
+            right,
+            power: 1,
+        })?;
+        self.add(Piece::CloseRaised(exponent))?;
+        Ok(())
     }
 
     /// A dot product ends.

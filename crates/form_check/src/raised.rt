@@ -10,7 +10,7 @@ use crate::ahead::power_at;
 use crate::kinds::{found, wrong_kind, wrong_name};
 use crate::known::Known;
 use crate::powers::{LARGEST_NUMBER, LARGEST_POWER, size_of};
-use crate::resolved::End;
+use crate::resolved::{End, Linked};
 use form_ast::{Named, Number, Piece, Sign};
 use form_base::{Cause, Id};
 use form_names::{Kind, Names};
@@ -141,6 +141,7 @@ pub fn end_of_parenthesis(
     Ok(Closing::CloseRaised(by))
 }
 
+/// An index and an end as the base of such a power.
 fn linked_index_base(index: Index, end: End) -> Base
     ensures { walking.base_of result ≡ definition.linked_index_base index end }
 {
@@ -152,22 +153,16 @@ fn linked_index_base(index: Index, end: End) -> Base
 }
 
 /// Two ends as the base of such a power.
-pub fn linked_base(a: End, b: End) -> Base
-    ensures { walking.base_of result ≡ definition.linked_base a b }
+pub fn linked_base(a: End, b: End) -> Linked
+    ensures { walking.linked_of result ≡ definition.linked_base a b }
 {
     match a {
         End::Vector(left) => match b {
-            End::Vector(right) => Base::Dot(left, right),
-            End::Fixed(value) => Base::Component(Component {
-                vector: left,
-                index: Index::Fixed(value),
-            }),
-            End::Index(index) => Base::Component(Component {
-                vector: left,
-                index: Index::Declared(index),
-            }),
+            End::Vector(right) => Linked::Dot(left, right),
+            End::Fixed(value) => Linked::Piece(linked_index_base(Index::Fixed(value), a)),
+            End::Index(index) => Linked::Piece(linked_index_base(Index::Declared(index), a)),
         },
-        End::Fixed(value) => linked_index_base(Index::Fixed(value), b),
-        End::Index(index) => linked_index_base(Index::Declared(index), b),
+        End::Fixed(value) => Linked::Piece(linked_index_base(Index::Fixed(value), b)),
+        End::Index(index) => Linked::Piece(linked_index_base(Index::Declared(index), b)),
     }
 }

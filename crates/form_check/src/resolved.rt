@@ -1,5 +1,6 @@
 use form_base::Id;
 use form_names::Kind;
+use form_tree::Base;
 
 /// A declared name and what it stands for.
 #[derive(Clone, Copy)]
@@ -16,6 +17,15 @@ pub enum End {
     /// A declared index.
     Index(Id),
     Vector(Id),
+}
+
+/// Two ends below a power that is a name.
+#[derive(Clone, Copy)]
+pub enum Linked {
+    /// A component or a delta.
+    Piece(Base),
+    /// A dot product, which then stands in parentheses.
+    Dot(Id, Id),
 }
 
 /// What stands before parentheses.

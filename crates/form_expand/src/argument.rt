@@ -1,5 +1,5 @@
 //! Arguments that stand alone, as those of a pattern without wildcards do.
-ghost use Rattle.std.specs.Prelude.{◌≡◌, IfOk, option_map};
+ghost use Rattle.std.specs.Prelude.{◌≡◌, IfOk, IfSome, option_map};
 ghost use Rattle.form_tree.specs.Tree.{Argument, pieces_of_argument};
 ghost use Rattle.form_expand.specs.Alone.{arguments_alone, expression_alone, pieces_unless_refused};
 ghost use Rattle.form_expand.specs.Expanding.{arguments_in};
@@ -23,8 +23,9 @@ pub fn argument_pieces(
     limit: u64,
     names: &Standing,
 ) -> Result<Option<Call>, AllocError>
-    ensures { (a : Argument) → tree.now ≡ pieces_of_argument a →
+    ensures pieces { (a : Argument) → tree.now ≡ pieces_of_argument a →
         IfOk result (λ call. option_map (λ c. c.pieces) call ≡ pieces_unless_refused (arguments_in limit names.now a)) }
+    ensures name { IfOk result (λ call. IfSome call (λ c. c.function ≡ 0)) }
 {
     match arguments(alloc, tree, limit, names)? {
         Some(arguments) => Ok(Some(arguments.into_call(Id::new(0))?)),

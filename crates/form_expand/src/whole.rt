@@ -133,6 +133,8 @@ impl Whole<'_> {
     pub fn ended(&mut self) -> Result<Option<Monomial>, ExpandError>
         ensures value { result ≡ ended_by (end_of self.old.end) }
         ensures same { end_of self.old.end ≡ None → self.new ≡ self.old }
+        ensures kept { self.new.kept ≡ self.old.kept }
+        ensures gone { end_of self.new.end ≡ None }
     {
         match self.end.take() {
             Some(refusal) => Err(ExpandError::Refused(refusal.into_cause())),

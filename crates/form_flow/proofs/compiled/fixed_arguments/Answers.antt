@@ -7,4 +7,4 @@ use Rattle.form_flow.proofs.compiled.fixed_arguments.Goals as goal
 pub loop-tree-preserved : goal.loop-tree-preserved
 loop-tree-preserved c = λ args is.
     one_argument_more c.args.limit c.args.trees.now args c.loop-tree.tree-index c.tree-item.result c.loop-tree.calls.items c.push.new.self.items c.in_ok-argument_pieces.field-0 _
-    is c.loop-tree-test.true c.tree-item.is (λ a e. c.in_ok-argument_pieces.ensures a (c.as_slice.ensures ∙ e) ∙ ap (λ ms. pieces_unless_refused (arguments_in c.args.limit ms a)) c.requires) c.in_ok-push.ensures.items (c.loop-tree.invariant args is)
+    is c.loop-tree-test.true c.tree-item.is (λ a e. c.in_ok-argument_pieces.ensures.pieces a (c.as_slice.ensures ∙ e) ∙ ap (λ ms. pieces_unless_refused (arguments_in c.args.limit ms a)) c.requires) c.in_ok-push.ensures.items (c.loop-tree.invariant args is)
