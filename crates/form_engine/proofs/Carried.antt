@@ -32,13 +32,6 @@ stopped_before has words (Some all) (Some taken) new status stop same why =
     let o = has words all in
     (o.0, o.1, inr (record { count = 0; front = same ∙ ap Some (sym (append-nil taken)); why = why }))
 
--- the call was stopped while it wrote
-pub stopped_within : {E : Type 0} (words : List (List ℕ)) (texts : Option Texts) (old new : Option (List ℕ)) (outcome : Outcome) (error : E) (status : Status) (stop : Type 0)
-    → IfSome texts (λ all. IsOutcome words all outcome) → Takes old outcome.bytes new (Err error) → stop → FollowsOutcome words texts old new status stop
-stopped_within words None old new outcome error status stop is took why = tt
-stopped_within words (Some all) None new outcome error status stop is took why = tt
-stopped_within words (Some all) (Some taken) new outcome error status stop is took why = (outcome, is, inr (record { count = took.0; front = took.1; why = why }))
-
 -- the call was stopped when it finished: all is written
 pub stopped_at_end : {E : Type 0} (words : List (List ℕ)) (texts : Option Texts) (old mid new : Option (List ℕ)) (outcome : Outcome) (done : ⊤) (error : E) (status : Status) (stop : Type 0)
     → IfSome texts (λ all. IsOutcome words all outcome) → Takes {E = E} old outcome.bytes mid (Ok done) → Takes mid [] new (Err error) → stop → FollowsOutcome words texts old new status stop
@@ -57,13 +50,6 @@ carried_out E words (Some all) (Some taken) mid new outcome done finished status
     let end : Takes {E = E} (Some (taken ++ outcome.bytes)) [] new (Ok finished) = subst (λ (m : Option (List ℕ)). Takes {E = E} m [] new (Ok finished)) took ended in
     (outcome, is, inl (record { all = end ∙ ap Some (append-nil (taken ++ outcome.bytes)); ending = e }))
 
--- a stop for another reason that follows from the first
-pub stopped_because : (words : List (List ℕ)) (texts : Option Texts) (old new : Option (List ℕ)) (status : Status) (stop other : Type 0) → (stop → other) → FollowsOutcome words texts old new status stop → FollowsOutcome words texts old new status other
-stopped_because words None old new status stop other why h = tt
-stopped_because words (Some all) None new status stop other why h = tt
-stopped_because words (Some all) (Some taken) new status stop other why h =
-    (h.0, h.1, elim h.2 [ inl done ↦ inl done | inr early ↦ inr (record { count = early.count; front = early.front; why = why early.why }) ])
-
 -- a count that rose, and doesn't stand at its last value at first, is greater at the end
 pub risen : (old new : ℕ) → HasRisen old new → old ≢ last_count → old ≤ new → old < new
 risen old new (inl more) below grows = more
@@ -79,13 +65,6 @@ pub library_stop : (A sink : Type 0) (old new : ℕ) (early : Stop) → (error_o
 library_stop A sink old new Library rose never below grows = risen old new (rose refl) below grows
 library_stop A sink old new Sink rose never below grows = absurd (never refl)
 library_stop A sink old new Memory rose never below grows = tt
-
--- what stopped it while it wrote has its cause
-pub sink_stop : (A library : Type 0) (old new : ℕ) (early : Stop) → (error_of A early ≡ Err Sink → HasRisen old new) → error_of A early ≢ Err Library → old ≢ last_count → old ≤ new
-    → IsStop library (old < new) (λ store. ⊥) (status_of early)
-sink_stop A library old new Library rose never below grows = absurd (never refl)
-sink_stop A library old new Sink rose never below grows = risen old new (rose refl) below grows
-sink_stop A library old new Memory rose never below grows = tt
 
 -- where the library tells its texts, each outcome of an answer is that of the words
 abbrev pub Decides : List (List ℕ) → Option Texts → Answer → Type 0

@@ -23,20 +23,6 @@ only_memory library sink (RefusedText cause place) no_library no_sink stop = abs
 only_memory library sink (RefusedRun cause place) no_library no_sink stop = absurd stop
 only_memory library sink (StoreDamaged store run place kept found) no_library no_sink stop = absurd stop
 
--- a stop that no store brought about is one whatever the stores did
-pub whatever_stores : (library sink : Type 0) (store : ℕ → Type 0) (status : Status) → IsStop library sink (λ store. ⊥) status → IsStop library sink store status
-whatever_stores library sink store LibraryFault stop = stop
-whatever_stores library sink store SinkFault stop = stop
-whatever_stores library sink store (StoreFault k) stop = absurd stop
-whatever_stores library sink store OutOfMemory stop = stop
-whatever_stores library sink store Done stop = absurd stop
-whatever_stores library sink store Usage stop = absurd stop
-whatever_stores library sink store (Missing name) stop = absurd stop
-whatever_stores library sink store (TextTooLong name) stop = absurd stop
-whatever_stores library sink store (RefusedText cause place) stop = absurd stop
-whatever_stores library sink store (RefusedRun cause place) stop = absurd stop
-whatever_stores library sink store (StoreDamaged s run place kept found) stop = absurd stop
-
 -- words and texts have at most one outcome
 abbrev pub OneOutcome : Type 0
 OneOutcome = (words : List (List ℕ)) (texts : Texts) (o p : Outcome) → IsOutcome words texts o → IsOutcome words texts p → o ≡ p
@@ -66,12 +52,6 @@ pub text_refusal : (words : List (List ℕ)) (texts : Option Texts) (status : St
     → IfSome texts (λ all. (cause : Cause) (place : Place) → status ≡ RefusedText cause place → IsOutcome words all (refused (RefusedText cause place)))
 text_refusal words None status h = tt
 text_refusal words (Some all) status h = λ cause place e. text_refusal_at words all (record { bytes = h.0; status = status }) cause place h.1 e
-
--- what was decided, of a status that is answered
-pub of_status : (words : List (List ℕ)) (texts : Option Texts) (status : Status) → Decided words texts status
-    → IfSome texts (λ all. (cause : Cause) (place : Place) → status ≡ RefusedRun cause place → (bytes : List ℕ) × IsOutcome words all (record { bytes = bytes; status = RefusedRun cause place }))
-of_status words None status h = tt
-of_status words (Some all) status h = λ cause place e. (h.0, subst (λ (s : Status). IsOutcome words all (record { bytes = h.0; status = s })) e h.1)
 
 too_long_at : (words : List (List ℕ)) (all : Texts) (o : Outcome) (name : List ℕ) → IsOutcome words all o → o.status ≡ TextTooLong name → IsOutcome words all (refused (TextTooLong name))
 too_long_at words all o name is e = elim (run_or_refused words all o is) [

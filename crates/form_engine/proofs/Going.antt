@@ -80,9 +80,6 @@ Takes_none : (a : Option (List ℕ)) → Takes {E = SinkErr} a [] a (Ok tt)
 Takes_none None = tt
 Takes_none (Some old) = sym (ap Some (append-nil old))
 
-pub going_start : (settings : Settings) (names : List Entry) (modules : List (List Checked)) (old : Option (List ℕ)) → IsGoing settings names modules old old 0 []
-going_start settings names modules old = record { printed = []; taken = Takes_none old; rest = λ o is. is }
-
 -- what stands behind what was printed
 behind_both : (p q : List ℕ) (o : Outcome) → behind p (behind q o) ≡ behind (p ++ q) o
 behind_both p q o = ap (λ bytes. record { bytes = bytes; status = o.status }) (sym (append_assoc p q o.bytes))

@@ -16,9 +16,6 @@ pub record HasCarried (old : List Monomial) (whole : Listing) (new : List Monomi
   pub terms : whole.terms ≡ front ++ left.terms
   pub end : whole.end ≡ left.end
 
-pub none_yet : (old : List Monomial) (l : Listing) → HasCarried old l old l
-none_yet old l = record { front = []; emitted = sym (append-nil old); terms = refl; end = refl }
-
 pub one_more : (old new next : List Monomial) (l left rest : Listing) (m : Monomial) → HasCarried old l new left → left ≡ before m rest → next ≡ new ++ m ∷ []
     → HasCarried old l next rest
 one_more old new next l left rest m h gives put = record {
@@ -30,16 +27,3 @@ one_more old new next l left rest m h gives put = record {
 
 pub a_front : (old new kept : List Monomial) (l left : Listing) → HasCarried old l new left → kept ≡ new → IsFront old l kept
 a_front old new kept l left h same = record { front = h.front; rest = left.terms; terms = h.terms; emitted = same ∙ h.emitted }
-
-pub all_carried : (old new : List Monomial) (l left : Listing) → HasCarried old l new left → left ≡ nothing → (new ≡ old ++ l.terms) × (l.end ≡ None)
-all_carried old new l left h none = (
-  h.emitted ∙ ap (λ ms. old ++ ms) (sym (h.terms ∙ ap (λ (x : Listing). h.front ++ x.terms) none ∙ append-nil h.front)),
-  h.end ∙ ap (λ (x : Listing). x.end) none,
-)
-
-pub carried_to : (old new : List Monomial) (l left : Listing) (cause : Cause) → HasCarried old l new left → left ≡ refusal cause
-    → (new ≡ old ++ l.terms) × (l.end ≡ Some cause)
-carried_to old new l left cause h is = (
-  h.emitted ∙ ap (λ ms. old ++ ms) (sym (h.terms ∙ ap (λ (x : Listing). h.front ++ x.terms) is ∙ append-nil h.front)),
-  h.end ∙ ap (λ (x : Listing). x.end) is,
-)

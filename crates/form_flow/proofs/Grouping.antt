@@ -32,9 +32,6 @@ with_last [] g r = refl
 with_last (h ∷ []) g r = refl
 with_last (h ∷ i ∷ gs) g r = ap (λ rest. h ∷ rest) (with_last (i ∷ gs) g r)
 
-pub with_first : (r : Rewriting) → with_rewriting [] true r ≡ with_rewriting [] false r
-with_first r = refl
-
 -- a group more, of one part
 pub one_group : (gs now : List Group) (g : Group) (part : CompiledPart) → now ≡ gs ++ g ∷ [] → g.parts.items ≡ part ∷ []
     → map rewritings_of now ≡ with_rewriting (map rewritings_of gs) false (rewriting_of part)
@@ -91,11 +88,4 @@ one_argument_more max ts args i t calls now call all is within at made more so_f
     ∙ append_assoc (map pieces_kept calls) (pieces_kept call ∷ []) (table_of max (drop (i + 1) args))
     ∙ ap (λ p. map pieces_kept calls ++ p ∷ table_of max (drop (i + 1) args)) (made a.0 a.2)
     ∙ ap (λ rest. map pieces_kept calls ++ table_of max rest) (sym a.1)
-    ∙ so_far
-
-pub all_arguments : (max : ℕ) (ts : List (List trees.Piece)) (args : List Argument) (i : ℕ) (calls : List (Option Call)) (all : List (Option (List Piece)))
-    → ts ≡ map pieces_of_argument args → length ts ≤ i → map pieces_kept calls ++ table_of max (drop i args) ≡ all → map pieces_kept calls ≡ all
-all_arguments max ts args i calls all is past so_far =
-    sym (append-nil (map pieces_kept calls))
-    ∙ sym (ap (λ rest. map pieces_kept calls ++ table_of max rest) (zip_end IsWritten ts args i (are_written ts args is) past))
     ∙ so_far

@@ -53,44 +53,11 @@ pub given_in : {E : Type 0} (A : Type 0) (max : ℕ) (all : List (ℕ × Listing
 given_in A max all names o n Q (Ok list) is h = (h.0, λ s q. h.1 ∙ ap (put_in_named max s all names) (sym is))
 given_in A max all names o n Q (Err e) is h = tt
 
--- what holds for each sum
-pub for_each : {X E S : Type 0} (A : Type 0) (Q : S → Type 0) (P : S → X → Type 0) (r : Result X E) → A → ((s : S) → Q s → IfOk r (P s)) → IfOk r (λ x. A × ((s : S) → Q s → P s x))
-for_each A Q P (Ok x) a h = (a, h)
-for_each A Q P (Err e) a h = tt
-
 -- a cut, with what is put in by what names stand for
 abbrev pub named : ℕ → Sum → List (ℕ × Listing) → List (Option Meanings) → Cut → ℕ × Listing
 named max s before names c = (c.place, put_in_named max s before names c.origin)
 
-pub one_more_cut : (max : ℕ) (s : Sum) (before : List (ℕ × Listing)) (names : List (Option Meanings)) (cs : List Cut) (i : ℕ) (c : Cut) (between now : List Inserted) (list : Part)
-    → i < length cs → c ≡ get_or cs i c → now ≡ between ++ (record { place = c.place; list = list }) ∷ [] → part_list max list ≡ put_in_named max s before names c.origin
-    → map (cut_list max) between ≡ map (named max s before names) (take i cs) → map (cut_list max) now ≡ map (named max s before names) (take (i + 1) cs)
-one_more_cut max s before names cs i c between now list within at is same so_far =
-    ap (map (cut_list max)) is
-    ∙ map-append (cut_list max) between ((record { place = c.place; list = list }) ∷ [])
-    ∙ ap (λ ls. ls ++ (c.place, part_list max list) ∷ []) so_far
-    ∙ ap (λ l. map (named max s before names) (take i cs) ++ (c.place, l) ∷ []) same
-    ∙ ap (λ (d : Cut). map (named max s before names) (take i cs) ++ named max s before names d ∷ []) at
-    ∙ sym (map_more (named max s before names) cs i c within)
-
-pub all_cuts : (max : ℕ) (s : Sum) (before : List (ℕ × Listing)) (names : List (Option Meanings)) (cs : List Cut) (i : ℕ) (between : List Inserted)
-    → length cs ≤ i → map (cut_list max) between ≡ map (named max s before names) (take i cs) → map (cut_list max) between ≡ map (named max s before names) cs
-all_cuts max s before names cs i between past so_far = so_far ∙ ap (map (named max s before names)) (take_all i cs past)
-
 -- ---- what names stand for, match by match
-
-pub one_bound : (names now : List (Option Meanings)) (o : Option Meanings) (matches rest : List (List Binding)) (bs : List Binding) (all : List Meanings)
-    → now ≡ names ++ o ∷ [] → names_in o ≡ bound_to bs → matches ≡ bs ∷ rest → map names_in names ++ map bound_to matches ≡ all → map names_in now ++ map bound_to rest ≡ all
-one_bound names now o matches rest bs all is same next so_far =
-    ap (λ ns. map names_in ns ++ map bound_to rest) is
-    ∙ ap (λ ms. ms ++ map bound_to rest) (map-append names_in names (o ∷ []))
-    ∙ append_assoc (map names_in names) (names_in o ∷ []) (map bound_to rest)
-    ∙ ap (λ m. map names_in names ++ m ∷ map bound_to rest) same
-    ∙ ap (λ ms. map names_in names ++ map bound_to ms) (sym next)
-    ∙ so_far
-
-pub all_bound : (names : List (Option Meanings)) (rest : List (List Binding)) (all : List Meanings) → rest ≡ [] → map names_in names ++ map bound_to rest ≡ all → map names_in names ≡ all
-all_bound names rest all none so_far = sym (append-nil (map names_in names)) ∙ ap (λ ms. map names_in names ++ map bound_to ms) (sym none) ∙ so_far
 
 get_mapped : {X Y : Type 0} (f : X → Y) (xs : List X) (i : ℕ) (d : X) → get_or (map f xs) i (f d) ≡ f (get_or xs i d)
 get_mapped f [] i d = refl
@@ -164,25 +131,6 @@ put_behind_all max s r x between behind none is put =
 from_some : {X : Type 0} (x y : X) → Some x ≡ Some y → x ≡ y
 from_some x y e = ap (λ o. unwrap_or o x) e
 
-factor_of : (w : List Call) (t : Term) → Some t ≡ of_word w → word_factor w ≡ single (once t) ∷ []
-factor_of [] t e = cc
-factor_of (c ∷ cs) t e = ap (λ u. single (once u) ∷ []) (sym (from_some t (of_others (record nothing { word = c ∷ cs })) e))
-
-no_factor : (w : List Call) → None ≡ of_word w → word_factor w ≡ []
-no_factor [] e = refl
-no_factor (c ∷ cs) e = cc
-
--- a part of the word more, or none
-pub with_part : (max : ℕ) (w : List Call) (t : Term) (lists now : List Part) → Some t ≡ of_word w → now ≡ lists ++ parts.Word t ∷ []
-    → map (part_list max) now ≡ map (part_list max) lists ++ word_factor w
-with_part max w t lists now there is =
-    ap (map (part_list max)) is
-    ∙ map-append (part_list max) lists (parts.Word t ∷ [])
-    ∙ ap (λ ls. map (part_list max) lists ++ ls) (sym (factor_of w t there))
-
-pub with_no_part : (max : ℕ) (w : List Call) (lists : List Part) → None ≡ of_word w → map (part_list max) lists ≡ map (part_list max) lists ++ word_factor w
-with_no_part max w lists none = sym (append-nil (map (part_list max) lists)) ∙ ap (λ ls. map (part_list max) lists ++ ls) (sym (no_factor w none))
-
 -- up to a cut, and what is put in there
 pub up_to_cut : (max : ℕ) (w : List Call) (start n : ℕ) (lists made now : List Part) (one : Inserted) (items rest : List Inserted) (all : List Listing)
     → n ≡ one.place - start → map (part_list max) made ≡ map (part_list max) lists ++ word_factor (take n (drop start w)) → now ≡ made ++ one.list ∷ [] → items ≡ one ∷ rest
@@ -210,11 +158,6 @@ up_to_end max w start n lists made items all count none so_far word =
     ∙ so_far
 
 -- ---- the row
-
-pub row_uncut : (max : ℕ) (m : Monomial) (bs : List Inserted) (behind : List Listing) (l : Listing) → None ≡ first_cut bs → l ≡ row max (single m ∷ behind)
-    → l ≡ list_of_rest max m (record { left = m.term; cuts = map (cut_list max) bs; behind = behind; has_matched = true })
-row_uncut max m [] behind l none is = is
-row_uncut max m (b ∷ bs) behind l none is = cc
 
 at_first : (w : List Call) (c : ℕ × Listing) (cs : List (ℕ × Listing)) → from_cuts w c.0 (c ∷ cs) ≡ c.1 ∷ from_cuts w c.0 cs
 at_first w c cs =

@@ -120,19 +120,6 @@ one_taken max p t after x cuts lists uncut none within is takes =
     ∙ takes
     ∙ ap (λ n. and_part n (untouched t) p) (sym within)
 
--- a group of one part, by its trees
-pub alone : (parts : List CompiledPart) (part : CompiledPart) (ps : List Part) → ArePartsOf (map rewriting_of parts) ps → length parts ≡ 1 → part ≡ get_or parts 0 part
-    → (p : Part) × (ps ≡ p ∷ []) × IsPart (rewriting_of part) p
-alone parts part ps are one is =
-    let here : slice_get (map rewriting_of parts) 0 ≡ Some (rewriting_of part) =
-    slice_get-map rewriting_of parts 0 ∙ ap (option_map rewriting_of) (slice_get_read parts (length parts) 0 part refl (omega (arith, one)) is) in
-    let p = zip_next IsPart (map rewriting_of parts) ps 0 (rewriting_of part) are here in
-    (p.0, p.1 ∙ ap (λ qs. p.0 ∷ qs) (zip_end IsPart (map rewriting_of parts) ps 1 are (omega (arith, length-map parts rewriting_of, one))), p.2)
-
-pub ready_alone : (max : ℕ) (parts : List CompiledPart) (part : CompiledPart) → All (IsReady max) parts → length parts ≡ 1 → part ≡ get_or parts 0 part → IsReady max part
-ready_alone max [] part h one is = absurd (omega (arith, one))
-ready_alone max (x ∷ xs) part h one is = subst (IsReady max) (sym is) ((recursion_from_All (IsReady max) (x ∷ xs) h).0)
-
 -- one part more
 pub next_part : (max : ℕ) (parts : List CompiledPart) (ps : List Part) (i : ℕ) (part : CompiledPart) (r next all : Rest)
     → ArePartsOf (map rewriting_of parts) ps → i < length parts → part ≡ get_or parts i part

@@ -220,10 +220,6 @@ pub still_none : (max : ℕ) (s : State) (w : Option Waiting) (pss : List (List 
     → left_in max (record { given = s.given; waiting = w; frames = s.frames }) pss ≡ left_in max s pss
 still_none max s w pss none same = ap (λ (o : Option Waiting). left_in max (record { given = s.given; waiting = o; frames = s.frames }) pss) (same ∙ sym none)
 
-pub fails_alike : (error : ExpandError) (a b new : Listing) → a ≡ b → Steps (Err error) a new → Gives (Err error) b new
-fails_alike (Refused cause) a b new same is = sym same ∙ is
-fails_alike Memory a b new same is = tt
-
 -- ---- the beginning
 
 pub starts : (last : (l : Listing) → followed l nothing ≡ l) (max : ℕ) (s : State) (pss : List (List Part)) (m : Monomial)

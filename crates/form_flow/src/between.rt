@@ -130,7 +130,8 @@ fn put_in<'a>(
     }
 }
 
-/// What was put in at an earlier cut. Cuts keep their order, so it is the next one.
+/// What was put in at an earlier cut. Cuts keep their order, so it is the next one; that it is isn't proved, and another
+/// one would be told as want of memory.
 fn next_earlier<'a>(number: u32, earlier: &mut Earlier<'a>) -> Result<Part<'a>, AllocError>
     ensures { (max : ℕ) (all : List (ℕ × Listing)) → map (cut_list max) (into_iter_items earlier.old.left) ≡ drop earlier.old.taken all →
         IfOk result (λ list. (map (cut_list max) (into_iter_items earlier.new.left) ≡ drop earlier.new.taken all)

@@ -70,6 +70,7 @@ fn emit_all<E: Emit>(alloc: Global, outputs: Outputs, out: &mut E) -> End
     ensures stopped { E.has_stopped out.old ≡ false → E.has_stopped out.new ≡ is_stopped result }
 {
     let mut outputs = outputs;
+    // No term has more outputs than the limit, which is a u64.
     for _made in 0..u64::MAX {
         let item = match outputs.next(alloc) {
             Ok(Some(item)) => item,

@@ -85,11 +85,11 @@ module _ (s : List Checked) where
       ∙ sym (ap (fold (and_standing s) first) (take_more all place e below) ∙ fold-append (and_standing s) first (take place all) (get_or all place e ∷ []))
 
   -- all that is carried out
-  pub all_works : (standing : List Stored) (none some all : List (ℕ × Option ℕ)) (held : ExpressionSet) (has_any : Bool) → has_any ≡ has_statements s →
+  pub all_works : (standing : List Stored) (none some all : List (ℕ × Option ℕ)) (held : ExpressionSet) (rewrites : Bool) → rewrites ≡ has_statements s →
       ((e : ℕ) → has held e ≡ list_any (is_held e) s) → none ≡ [] →
-      ((t : List Checked) → ((e : ℕ) → goes_through t e ≡ (has_any && not (has held e))) → map (work_at t) some ≡ fold (and_standing t) (map (work_at t) none) standing) →
+      ((t : List Checked) → ((e : ℕ) → goes_through t e ≡ (rewrites && not (has held e))) → map (work_at t) some ≡ fold (and_standing t) (map (work_at t) none) standing) →
       map (work_at s) all ≡ fold and_definition (map (work_at s) some) s → map (work_at s) all ≡ works_of s standing
-  all_works standing none some all held has_any any are empty stands defined =
+  all_works standing none some all held rewrites any are empty stands defined =
       defined
       ∙ ap (λ ws. fold and_definition ws s)
       (stands s (λ e. going s held are e ∙ ap (λ b. b && not (has held e)) (sym any))

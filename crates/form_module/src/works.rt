@@ -17,20 +17,20 @@ use std::alloc::{AllocError, Global};
 use std::collections::BTreeMap;
 
 /// What a module carries out, by expression: the place of its definition, none where the terms that it stands for go
-/// through the module's statements.
+/// through the module's statements. `rewrites` says whether it has any that rewrite terms.
 pub fn works(
     alloc: Global,
     statements: &[Checked],
-    has_any: bool,
+    rewrites: bool,
     standing: &[Stored],
 ) -> Result<BTreeMap<Id, Option<usize>>, AllocError>
-    requires { has_any ≡ has_statements statements.now }
+    requires { rewrites ≡ has_statements statements.now }
     ensures { IfOk result (λ works.
         map (work_at statements.now) works.entries ≡ works_of statements.now standing.now) }
 {
     let held = held(alloc, statements)?;
     let mut works = BTreeMap::new(alloc);
-    add_standing(&mut works, has_any, &held, standing)?;
+    add_standing(&mut works, rewrites, &held, standing)?;
     add_definitions(&mut works, statements)?;
     Ok(works)
 }
@@ -38,18 +38,18 @@ pub fn works(
 /// Adds the expressions that go through the statements.
 fn add_standing(
     works: &mut BTreeMap<Id, Option<usize>>,
-    has_any: bool,
+    rewrites: bool,
     held: &ExpressionSet,
     standing: &[Stored],
 ) -> Result<(), AllocError>
     ensures { OnOk result ((s : List AsChecked) →
-        ((e : ℕ) → goes_through s e ≡ (has_any && not (has held.now e))) →
+        ((e : ℕ) → goes_through s e ≡ (rewrites && not (has held.now e))) →
         map (work_at s) works.new.entries ≡ fold (and_standing s) (map (work_at s) works.old.entries) standing.now) }
 {
     for one in standing {
         note_standing(
             works,
-            goes_through(has_any, held, one.expression),
+            goes_through(rewrites, held, one.expression),
             one.expression,
         )?;
     }
@@ -71,10 +71,10 @@ fn add_definitions(
 }
 
 /// Whether an expression that stands goes through the statements.
-fn goes_through(has_any: bool, held: &ExpressionSet, expression: Id) -> bool
-    ensures { result ≡ (has_any && not (has held.now expression)) }
+fn goes_through(rewrites: bool, held: &ExpressionSet, expression: Id) -> bool
+    ensures { result ≡ (rewrites && not (has held.now expression)) }
 {
-    has_any && !held.has(expression)
+    rewrites && !held.has(expression)
 }
 
 fn note_standing(
