@@ -10,7 +10,7 @@ use form_check::{Checked, IdList, Module, Rewriting, Selection};
 use form_collect::Terms;
 use form_expand::Stored;
 use form_frac::Frac;
-use form_module::{ModuleError, printed, run_module};
+use form_module::{ModuleError, run_module};
 use form_term::{Monomial, Term};
 use form_tree::{Link, Name, Natural, Pattern, PatternPiece, Piece, Tree};
 use std::alloc::{AllocError, Global};
@@ -130,14 +130,5 @@ fn a_module_is_carried_out_or_refused(rt: HostRuntime) -> Result<(), Fail> {
     let alloc = rt.alloc();
     assert_eq!(rt; refused_at(alloc, 3, 1)?, 0);
     assert_eq!(rt; refused_at(alloc, 0, -1)?, 4);
-    Ok(())
-}
-
-#[test]
-fn the_expressions_that_are_named_are_printed(rt: HostRuntime) -> Result<(), Fail> {
-    let alloc = rt.alloc();
-    let set = printed(alloc, &module_of(alloc, 3, 1)?)?;
-    assert!(rt; set.has(Id::new(4)));
-    assert!(rt; !set.has(Id::new(7)));
     Ok(())
 }

@@ -11,31 +11,6 @@ use form_tree::{Link, Name, Natural, Pattern, PatternPiece, Piece, Sets, Sort, T
 use std::alloc::{AllocError, Global};
 use std::test::Fail;
 
-/// `id` or `also` a power of a symbol = a symbol.
-fn statement(
-    alloc: Global,
-    is_also: bool,
-    taken: u32,
-    power: i64,
-    put: u32,
-) -> Result<Checked, AllocError> {
-    let mut pieces = Vec::new(alloc);
-    pieces.push(PatternPiece::Symbol(Name::Itself(Id::new(taken)), power))?;
-    let right = [Piece::Symbol {
-        link: Link::Plus,
-        symbol: Id::new(put),
-        power: 1,
-    }];
-    Ok(Checked::Rewrite(
-        is_also,
-        Rewriting {
-            option: None,
-            pattern: Pattern::from_parts(pieces, Vec::new(alloc)),
-            right: Tree::from_vec(Vec::from_slice(alloc, &right)?),
-        },
-    ))
-}
-
 /// The only output, none where there is another number of them.
 fn only_output(
     alloc: Global,
@@ -57,48 +32,6 @@ fn only_of(alloc: Global, module: &CompiledModule, item: Monomial) -> Option<Mon
     Some(first)
 }
 
-/// Whether it is this symbol to this power times that one to that power.
-fn is_product(item: &Option<Monomial>, this: (u32, i32), that: (u32, i32)) -> bool {
-    let Some(item) = item else {
-        return false;
-    };
-    match item.term.powers() {
-        [first, second] => {
-            first.symbol == Id::new(this.0)
-                && first.exponent == this.1
-                && second.symbol == Id::new(that.0)
-                && second.exponent == that.1
-        }
-        _ => false,
-    }
-}
-
-#[test]
-fn what_is_put_in_goes_through_later_statements_alone(rt: HostRuntime) -> Result<(), Fail> {
-    let alloc = rt.alloc();
-    // x^5 by `id x^2 = y; also x = z; id y = x;` is x*y*y*z, hence x^2*z, the x behind y included.
-    let mut statements = Vec::new(alloc);
-    statements.push(statement(alloc, false, 0, 2, 1)?)?;
-    statements.push(statement(alloc, true, 0, 1, 2)?)?;
-    statements.push(statement(alloc, false, 1, 1, 0)?)?;
-    let item = Monomial {
-        coefficient: Frac::one(),
-        term: Term::symbol(alloc, Id::new(0), 5)?,
-    };
-    let output = only_output(alloc, &statements, item)?;
-    assert!(rt; is_product(&output, (0, 2), (2, 1)));
-    Ok(())
-}
-
-/// A function without arguments begins.
-fn function(link: Link, position: u32) -> Piece {
-    Piece::Function {
-        link,
-        function: Id::new(position),
-        is_commuting: false,
-    }
-}
-
 fn written(
     alloc: Global,
     is_also: bool,
@@ -113,75 +46,6 @@ fn written(
             right: Tree::from_vec(Vec::from_slice(alloc, right)?),
         },
     ))
-}
-
-/// `id x = A^2*B^2`.
-fn word_for_symbol(alloc: Global) -> Result<Checked, AllocError> {
-    let mut pieces = Vec::new(alloc);
-    pieces.push(PatternPiece::Symbol(Name::Itself(Id::new(0)), 1))?;
-    let right = [
-        function(Link::Plus, 3),
-        Piece::EndOfFunction { power: 2 },
-        function(Link::Times, 4),
-        Piece::EndOfFunction { power: 2 },
-    ];
-    written(alloc, false, pieces, &right)
-}
-
-/// `id A*B = C`.
-fn pair(alloc: Global) -> Result<Checked, AllocError> {
-    let mut pieces = Vec::new(alloc);
-    pieces.push(PatternPiece::Word(2))?;
-    pieces.push(PatternPiece::Call(Name::Itself(Id::new(3))))?;
-    pieces.push(PatternPiece::EndOfArguments)?;
-    pieces.push(PatternPiece::Call(Name::Itself(Id::new(4))))?;
-    pieces.push(PatternPiece::EndOfArguments)?;
-    pieces.push(PatternPiece::EndOfWord)?;
-    let right = [function(Link::Plus, 5), Piece::EndOfFunction { power: 1 }];
-    written(alloc, false, pieces, &right)
-}
-
-/// `also A = D`.
-fn single(alloc: Global) -> Result<Checked, AllocError> {
-    let mut pieces = Vec::new(alloc);
-    pieces.push(PatternPiece::Word(1))?;
-    pieces.push(PatternPiece::Call(Name::Itself(Id::new(3))))?;
-    pieces.push(PatternPiece::EndOfArguments)?;
-    pieces.push(PatternPiece::EndOfWord)?;
-    let right = [function(Link::Plus, 6), Piece::EndOfFunction { power: 1 }];
-    written(alloc, true, pieces, &right)
-}
-
-/// Whether it is the product of these functions.
-fn is_word(item: &Option<Monomial>, functions: (u32, u32, u32)) -> bool {
-    let Some(item) = item else {
-        return false;
-    };
-    match item.term.word() {
-        [first, second, third] => {
-            first.function() == Id::new(functions.0)
-                && second.function() == Id::new(functions.1)
-                && third.function() == Id::new(functions.2)
-        }
-        _ => false,
-    }
-}
-
-#[test]
-fn what_is_put_in_stands_where_the_word_was_cut(rt: HostRuntime) -> Result<(), Fail> {
-    let alloc = rt.alloc();
-    // x by `id x = A^2*B^2; id A*B = C; also A = D;` is D*C*B: the two stretches A*B don't join.
-    let mut statements = Vec::new(alloc);
-    statements.push(word_for_symbol(alloc)?)?;
-    statements.push(pair(alloc)?)?;
-    statements.push(single(alloc)?)?;
-    let item = Monomial {
-        coefficient: Frac::one(),
-        term: Term::symbol(alloc, Id::new(0), 1)?,
-    };
-    let output = only_output(alloc, &statements, item)?;
-    assert!(rt; is_word(&output, (6, 5, 4)));
-    Ok(())
 }
 
 /// `f(number)` in a right side.

@@ -1,10 +1,6 @@
 //! Coefficients inside arguments, whose parts have up to four digits of 32 bits.
 
-use form_base::Id;
-use form_frac::Frac;
-use form_term::laws::lawful_pieces;
-use form_term::{Arguments, Call, Coefficient, number_in, terms_in};
-use std::alloc::{AllocError, Global};
+use form_term::Coefficient;
 use std::cmp::Ordering;
 use std::test::Fail;
 
@@ -47,48 +43,5 @@ fn coefficients_go_by_their_values(rt: HostRuntime) -> Result<(), Fail> {
     assert!(rt; is_below((1, 1 << 100), (M, 1)));
     assert!(rt; is_below((1, 0xffff_ffff), (1, 1 << 32)));
     assert!(rt; is_below((1, 1 << 96), (1, u128::MAX)));
-    Ok(())
-}
-
-/// A function of the expression that is this number.
-fn of_number(alloc: Global, number: Frac) -> Result<Call, AllocError> {
-    let arguments = Arguments::new(alloc);
-    if number.is_zero() {
-        arguments.with_expression(&[])?.into_call(Id::new(5))
-    } else {
-        arguments.with_number(number)?.into_call(Id::new(5))
-    }
-}
-
-/// The number that the argument of a function is, 0 where it has no terms.
-fn number_of(call: Call) -> Frac {
-    lawful_pieces();
-    number_in(call.pieces()).unwrap_or(Frac::zero())
-}
-
-/// The coefficient of the one term in the argument of a function, 0 where there is none.
-fn coefficient_of(alloc: Global, call: Call) -> Result<Frac, AllocError> {
-    lawful_pieces();
-    match terms_in(alloc, call.pieces())?.as_slice() {
-        [term] => Ok(term.coefficient),
-        _ => Ok(Frac::zero()),
-    }
-}
-
-/// Whether a fraction is read again where it is the argument of a function.
-fn is_read_again(alloc: Global, n: i128, d: i128) -> Result<bool, AllocError> {
-    let number = Frac::make(n, d).unwrap_or(Frac::zero());
-    let coefficient = coefficient_of(alloc, of_number(alloc, number)?)?;
-    Ok(number_of(of_number(alloc, number)?) == number && coefficient == number)
-}
-
-#[test]
-fn numbers_are_read_from_their_pieces(rt: HostRuntime) -> Result<(), Fail> {
-    let alloc = rt.alloc();
-    assert!(rt; is_read_again(alloc, 0, 1)?);
-    assert!(rt; is_read_again(alloc, -7, 1)?);
-    assert!(rt; is_read_again(alloc, -M, M - 1)?);
-    assert!(rt; is_read_again(alloc, 1 << 96, M)?);
-    assert!(rt; is_read_again(alloc, -5, 1 << 64)?);
     Ok(())
 }

@@ -1,5 +1,4 @@
-//! Tests of the calls on terms: fractions, coefficients inside arguments, terms, products, sums, matches, what is taken
-//! out, and lists of right sides.
+//! Tests of the calls on terms: fractions, coefficients inside arguments, terms, products, and lists of right sides.
 #![tactic(auto)]
 
 #[cfg(test)]
@@ -9,12 +8,6 @@ mod fractions;
 #[cfg(test)]
 mod lists;
 #[cfg(test)]
-mod matches;
-#[cfg(test)]
 mod products;
-#[cfg(test)]
-mod sums;
-#[cfg(test)]
-mod takings;
 #[cfg(test)]
 mod terms;

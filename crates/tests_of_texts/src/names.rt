@@ -3,7 +3,7 @@
 ghost use Rattle.form_names.specs.Names.{IsKind};
 
 use form_base::{Id, Name};
-use form_names::{DeclareError, Dimension, Elements, Kind, Names, Numbers};
+use form_names::{DeclareError, Dimension, Kind, Names};
 use std::alloc::{AllocError, Global};
 use std::test::Fail;
 
@@ -50,39 +50,5 @@ fn names_keep_their_positions(rt: HostRuntime) -> Result<(), Fail> {
     assert!(rt; index == Some(2) && longer == None);
     assert!(rt; dimension(&names, "mu") == Some(Dimension::Number(4)));
     assert!(rt; dimension(&names, "x") == None);
-    Ok(())
-}
-
-/// The position at which the set of this number stands once it is declared, and none where it isn't.
-fn set_declared(
-    alloc: Global,
-    names: &mut Names,
-    name: &str,
-    number: i128,
-) -> Result<Option<u32>, AllocError> {
-    if names.len() > 9 {
-        return Err(AllocError);
-    }
-    let mut numbers = Vec::new(alloc);
-    numbers.push(number)?;
-    let elements = Elements::Numbers(Numbers::from_vec(numbers)?);
-    match names.declare_set(Name::new(alloc, name)?, elements) {
-        Ok(id) => Ok(Some(id.position())),
-        Err(DeclareError::Redeclared) => Ok(None),
-        Err(DeclareError::Memory) => Err(AllocError),
-    }
-}
-
-#[test]
-fn sets_keep_their_elements(rt: HostRuntime) -> Result<(), Fail> {
-    let alloc = rt.alloc();
-    let mut names = Names::new(alloc);
-    let symbol = declared(alloc, &mut names, "x", Kind::Symbol)?;
-    let set = set_declared(alloc, &mut names, "s", -3)?;
-    let again = set_declared(alloc, &mut names, "s", -3)?;
-    let longer = set_declared(alloc, &mut names, "s", 4)?;
-    let no_set = set_declared(alloc, &mut names, "x", -3)?;
-    assert!(rt; symbol == Some(0) && set == Some(1) && again == Some(1));
-    assert!(rt; longer == None && no_set == None);
     Ok(())
 }

@@ -3,7 +3,7 @@
 use form_base::Name;
 use form_mem::SureLibrary;
 use form_preproc::{Expanded, FileError, Handed, expand};
-use std::alloc::{AllocError, Global};
+use std::alloc::Global;
 use std::test::Fail;
 
 /// A line behind the number of its text and of the line there.
@@ -53,13 +53,5 @@ fn texts_are_included_and_procedures_called(rt: HostRuntime) -> Result<(), Fail>
         "#procedure last(x)\n* commentary\n#if `x' > 6\nPrint `x';\n#endif\n.end\n#endprocedure\n";
     let found = expanded(rt.alloc(), file, "last.h", text)?;
     assert!(rt; found.as_str() == "0:4 Local F1 = 2;\n0:4 Local F2 = 3;\n1:4 Print 7;\n1:6 .end\n");
-    Ok(())
-}
-
-#[test]
-fn a_refusal_names_its_text(rt: HostRuntime) -> Result<(), Fail> {
-    let text = "#procedure p\nPrint `u';\n#endprocedure\n";
-    let found = expanded(rt.alloc(), "\n#call p\n.end\n", "p.prc", text)?;
-    assert!(rt; found.as_str() == "p.prc 2");
     Ok(())
 }

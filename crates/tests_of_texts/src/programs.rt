@@ -89,20 +89,9 @@ fn refused_at(alloc: Global, modules: Vec<Module>) -> Result<u32, AllocError>
 }
 
 #[test]
-fn statements_are_checked_in_order(rt: HostRuntime) -> Result<(), Fail> {
+fn a_definition_is_checked(rt: HostRuntime) -> Result<(), Fail> {
     let alloc = rt.alloc();
     let all = modules(alloc, Declared::Vectors, "x", all_printed(alloc))?;
     assert!(rt; refused_at(alloc, all)? == 0);
-    let all = modules(alloc, Declared::CFunctions, "x", all_printed(alloc))?;
-    assert!(rt; refused_at(alloc, all)? == 0);
-    let wrong = modules(alloc, Declared::Symbols, "x", all_printed(alloc))?;
-    assert!(rt; refused_at(alloc, wrong)? == 2);
-    let wrong = modules(
-        alloc,
-        Declared::Functions,
-        "x",
-        Statement::Print(list_of(alloc, "x", 3)?),
-    )?;
-    assert!(rt; refused_at(alloc, wrong)? == 3);
     Ok(())
 }

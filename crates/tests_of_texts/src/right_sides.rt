@@ -2,7 +2,7 @@
 
 use form_ast::{Expr, Link, Piece};
 use form_base::Spot;
-use form_grammar::{ReadError, RightSide, Terminal, read_expr, read_pattern, read_right};
+use form_grammar::{ReadError, read_expr, read_pattern};
 use form_lexer::{Token, lex};
 use std::alloc::{AllocError, Global};
 use std::test::Fail;
@@ -80,21 +80,6 @@ fn pattern_of(alloc: Global, line: &str) -> Result<String, Fail> {
     )
 }
 
-/// The pieces of a right side with this pattern.
-fn right_of(alloc: Global, pattern: &str, line: &str) -> Result<String, Fail> {
-    match read_pattern(alloc, tokens_of(alloc, pattern)?.into_iter()) {
-        Ok(pattern) => shown(
-            alloc,
-            read_right(
-                alloc,
-                tokens_of(alloc, line)?.into_iter(),
-                pattern.as_slice(),
-            ),
-        ),
-        Err(_) => Err(Fail::from("no pattern")),
-    }
-}
-
 #[test]
 fn reads_right_sides(rt: HostRuntime) -> Result<(), Fail> {
     let alloc = rt.alloc();
@@ -116,55 +101,6 @@ fn reads_right_sides(rt: HostRuntime) -> Result<(), Fail> {
 }
 
 #[test]
-fn reads_nothing_else(rt: HostRuntime) -> Result<(), Fail> {
-    let lines = [
-        "",
-        "x y",
-        "2*-3",
-        "--x",
-        "x^-1^2",
-        "x/(y)",
-        "(x)^-1",
-        "(x",
-        "x)",
-        "x^y",
-        "x^(2",
-        "d_",
-        "d_(x)",
-        "d_(x,y,z)",
-        "d_(-x,y)",
-        "d_((x),y)",
-        "f(,x)",
-        "f(x,)",
-        "f(x",
-        "(x,y)",
-        "1/f(x)",
-        "f(x)^-1",
-        "p.d_",
-        "p.q.r",
-        "p.q(x)",
-        "g_(1)",
-        "1/d_(x,y)",
-        "f(x)(y)",
-        "2(x)",
-    ];
-    for line in lines {
-        assert_eq!(rt; pieces_of(rt.alloc(), line)?.as_str(), "");
-    }
-    Ok(())
-}
-
-#[test]
-fn reads_a_right_side_as_its_tokens_come(rt: HostRuntime) -> Result<(), Fail> {
-    let mut right_side = RightSide::new(rt.alloc());
-    for token in tokens_of(rt.alloc(), "x^2+1")? {
-        right_side.take(Terminal::from(token))?;
-    }
-    assert!(rt; matches!(&right_side.finish(), Ok(_)));
-    Ok(())
-}
-
-#[test]
 fn reads_patterns(rt: HostRuntime) -> Result<(), Fail> {
     let alloc = rt.alloc();
     assert_eq!(rt; pattern_of(alloc, "x?^2*y")?.as_str(), "1a.?.^*a");
@@ -176,50 +112,5 @@ fn reads_patterns(rt: HostRuntime) -> Result<(), Fail> {
         pattern_of(alloc, "p?.q?*d_(mu?,2)*i_")?.as_str(),
         "1p.?.q.?*d.i.?.j.e*a"
     );
-    Ok(())
-}
-
-#[test]
-fn reads_no_other_patterns(rt: HostRuntime) -> Result<(), Fail> {
-    let lines = [
-        "2*x",
-        "x/y",
-        "-x",
-        "x+y",
-        "(x)",
-        "x?^0",
-        "x*x^-1",
-        "p.q*q.p^-1",
-        "x^n?*x",
-        "p.q^n?",
-        "x^-n?",
-        "x^n",
-        "i_?",
-        "x?{1,a}",
-        "x?{}",
-        "f(x?+1)",
-        "f(2*x?)",
-        "f(x?^0)",
-        "f(g(x?)/y)",
-        "?a",
-        "f(?)",
-    ];
-    for line in lines {
-        assert_eq!(rt; pattern_of(rt.alloc(), line)?.as_str(), "");
-    }
-    Ok(())
-}
-
-#[test]
-fn reads_right_sides_of_patterns(rt: HostRuntime) -> Result<(), Fail> {
-    let alloc = rt.alloc();
-    let pattern = "f(?a)*x^n?";
-    assert_eq!(rt;
-        right_of(alloc, pattern, "n*x^n/y^-n*g(?a,2)")?.as_str(),
-        "1a*a.~/a.~*f.=.,1n.;"
-    );
-    assert_eq!(rt; right_of(alloc, pattern, "x^m")?.as_str(), "");
-    assert_eq!(rt; right_of(alloc, pattern, "f(?b)")?.as_str(), "");
-    assert_eq!(rt; right_of(alloc, pattern, "x?")?.as_str(), "");
     Ok(())
 }

@@ -1,6 +1,6 @@
 //! How faults print, against lines written out by hand.
 
-use form_base::{Name, Status};
+use form_base::Status;
 use std::alloc::{AllocError, Global};
 use std::test::Fail;
 
@@ -15,21 +15,5 @@ fn faults_print_as_lines(rt: HostRuntime) -> Result<(), Fail> {
     let alloc = rt.alloc();
     assert!(rt; prints(alloc, Status::StoreFault(3), "tform: store fault 3")?);
     assert!(rt; prints(alloc, Status::OutOfMemory, "tform: out of memory")?);
-    Ok(())
-}
-
-#[test]
-fn missing_texts_are_named(rt: HostRuntime) -> Result<(), Fail> {
-    let alloc = rt.alloc();
-    let name = Name::new(alloc, "q.frm")?;
-    assert!(rt; prints(alloc, Status::Missing(name), "error: missing q.frm")?);
-    let long = Name::new(alloc, "procedures.frm")?;
-    assert!(rt;
-        prints(
-            alloc,
-            Status::Missing(long),
-            "error: missing procedures.frm"
-        )?
-    );
     Ok(())
 }

@@ -21,34 +21,6 @@ fn is_name(token: &Token, text: &str) -> bool {
     }
 }
 
-/// One letter for each kind.
-fn letter(token: &Token) -> char {
-    match &token.kind {
-        TokenKind::Number(_) => 'n',
-        TokenKind::Name(_) => 'a',
-        TokenKind::BuiltIn(_) => 'b',
-        TokenKind::Mark(_) => 'm',
-        TokenKind::Stray => 's',
-    }
-}
-
-/// The letters of a line's tokens.
-fn letters(alloc: Global, line: &str) -> Result<String, AllocError> {
-    let tokens = tokens_of(alloc, line)?;
-    let mut letters = String::new(alloc);
-    for token in &tokens {
-        letters.push(letter(token))?;
-    }
-    Ok(letters)
-}
-
-fn is_past_limits(token: &Token) -> bool {
-    match token.kind {
-        TokenKind::Number(value) => value == 1 << 127,
-        _ => false,
-    }
-}
-
 #[test]
 fn a_dot_product(rt: HostRuntime) -> Result<(), Fail> {
     let tokens = tokens_of(rt.alloc(), "p.q")?;
@@ -56,19 +28,5 @@ fn a_dot_product(rt: HostRuntime) -> Result<(), Fail> {
     assert!(rt; is_name(&tokens[0], "p"));
     assert!(rt; matches!(tokens[1].kind, TokenKind::Mark(Mark::Period)));
     assert!(rt; is_name(&tokens[2], "q"));
-    Ok(())
-}
-
-#[test]
-fn all_kinds(rt: HostRuntime) -> Result<(), Fail> {
-    let alloc = rt.alloc();
-    assert_eq!(rt;
-        letters(alloc, "F2=-12x\t*[a ;]]i_j_^&& &|| [z; 1")?.as_str(),
-        "ammnamasbsmmsms"
-    );
-    let tokens = tokens_of(alloc, "170141183460469231731687303715884105728 [a ;]")?;
-    assert_eq!(rt; tokens.len(), 2);
-    assert!(rt; is_past_limits(&tokens[0]));
-    assert!(rt; is_name(&tokens[1], "[a ;]"));
     Ok(())
 }

@@ -1,7 +1,7 @@
 //! Command lines, against what they ask for, written out by hand.
 
 use form_base::Settings;
-use form_words::{WordsError, read_words};
+use form_words::read_words;
 use std::alloc::{AllocError, Global};
 use std::test::Fail;
 
@@ -23,13 +23,5 @@ fn four_workers(rt: HostRuntime) -> Result<(), Fail> {
     };
     let job = read_words(rt.alloc(), &words);
     assert!(rt; job.is_ok_and(|job| job.settings == settings && job.file.as_str() == "p.frm"));
-    Ok(())
-}
-
-#[test]
-fn seventeen_workers(rt: HostRuntime) -> Result<(), Fail> {
-    let words = owned(rt.alloc(), &["tform", "-w", "17", "p.frm"])?;
-    let error = read_words(rt.alloc(), &words).err();
-    assert!(rt; error == Some(WordsError::Usage));
     Ok(())
 }

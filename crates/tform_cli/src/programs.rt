@@ -1,4 +1,4 @@
-//! Whole programs over a library and a sink in memory, against bytes and statuses worked out by hand.
+//! Whole programs over a library and a sink in memory of which one fails, against bytes and statuses worked out by hand.
 
 ghost use Rattle.std.specs.Prelude.{◌≡◌, IfOk};
 ghost use Rattle.form_mem.specs.Library.{library_faults};
@@ -18,7 +18,6 @@ const INCLUDES: &str = "#include xy.h\nLocal F = (x+y)^2;\nPrint;\n.end\n";
 /// Which device fails, at its first call or its second.
 #[derive(Clone, Copy, PartialEq, Eq)]
 enum Failing {
-    Nothing,
     Fetch,
     SecondFetch,
     Put,
@@ -29,7 +28,6 @@ enum Failing {
 struct Answered {
     code: u8,
     bytes: Vec<u8>,
-    is_finished: bool,
 }
 
 /// A library that has the text `p.frm`, and one that declares x and y.
@@ -42,7 +40,7 @@ fn library_of(alloc: Global, text: &str, failing: Failing) -> Result<MemLibrary,
     match failing {
         Failing::Fetch => library.fail_at(1)?,
         Failing::SecondFetch => library.fail_at(2)?,
-        Failing::Nothing | Failing::Put => {}
+        Failing::Put => {}
     }
     Ok(library)
 }
@@ -82,78 +80,7 @@ fn answer_to<R: Threads + Wait>(
     Ok(Answered {
         code: status.code(),
         bytes: out.bytes().to_vec(alloc)?,
-        is_finished: out.is_finished(),
     })
-}
-
-/// Whether a text without faults around it gives these bytes and this code, and the sink is finished.
-fn gives<R: Threads + Wait>(
-    rt: &R,
-    alloc: Global,
-    text: &str,
-    bytes: &str,
-    code: u8,
-) -> Result<bool, AllocError> {
-    let answered = answer_to(rt, alloc, &["tform", "p.frm"], text, Failing::Nothing)?;
-    Ok(
-        answered.bytes.as_slice() == bytes.as_bytes()
-            && answered.code == code
-            && answered.is_finished,
-    )
-}
-
-#[test]
-fn a_square_prints(rt: HostRuntime) -> Result<(), Fail> {
-    let printed = "\n   F =\n      y^2 + 2*x*y + x^2;\n\n";
-    assert!(rt; gives(&rt, rt.alloc(), SQUARE, printed, 0)?);
-    Ok(())
-}
-
-#[test]
-fn a_refused_module_stands_behind_what_was_printed(rt: HostRuntime) -> Result<(), Fail> {
-    let text = "Symbol x;\nLocal F = 2*x/3;\nPrint;\n.sort\nLocal G = x/0;\n.end\n";
-    let printed = "\n   F =\n      2/3*x;\n\nerror: module 2 expression G: DivideByZero\n";
-    assert!(rt; gives(&rt, rt.alloc(), text, printed, 4)?);
-    Ok(())
-}
-
-#[test]
-fn a_number_may_have_any_power(rt: HostRuntime) -> Result<(), Fail> {
-    let text =
-        "Symbols x,y,n;\nCFunctions f,g,h;\nLocal F = h(1)*f(5000000000);\nLocal G = h(-1)*f(5000000000);\nLocal H = h(-1)*f(5000000001);\nLocal J = h(0)*f(5000000000);\nid h(x?)*f(n?)*g(y^n?)^0 = x^n;\nPrint;\n.end\n";
-    let printed =
-        "\n   F =\n      1;\n\n\n   G =\n      1;\n\n\n   H =\n      -1;\n\n\n   J = 0;\n\n";
-    assert!(rt; gives(&rt, rt.alloc(), text, printed, 0)?);
-    Ok(())
-}
-
-#[test]
-fn a_power_out_of_range_is_refused_however_large(rt: HostRuntime) -> Result<(), Fail> {
-    let text =
-        "Symbols x,y,n;\nCFunctions f,g,h;\nLocal F = h(2)*f(5000000000);\nid h(x?)*f(n?)*g(y^n?)^0 = x^n;\nPrint;\n.end\n";
-    let refused = "error: module 1 expression F: Overflow\n";
-    assert!(rt; gives(&rt, rt.alloc(), text, refused, 4)?);
-    Ok(())
-}
-
-#[test]
-fn a_missing_text_is_named(rt: HostRuntime) -> Result<(), Fail> {
-    let alloc = rt.alloc();
-    let answered = answer_to(&rt, alloc, &["tform", "q.frm"], SQUARE, Failing::Nothing)?;
-    assert_eq!(rt;
-        answered.bytes.as_slice(),
-        b"error: missing q.frm\n".as_slice()
-    );
-    assert_eq!(rt; answered.code, 2);
-    Ok(())
-}
-
-#[test]
-fn no_file_is_usage(rt: HostRuntime) -> Result<(), Fail> {
-    let answered = answer_to(&rt, rt.alloc(), &["tform"], SQUARE, Failing::Nothing)?;
-    assert_eq!(rt; answered.bytes.as_slice(), b"error: usage\n".as_slice());
-    assert_eq!(rt; answered.code, 1);
-    Ok(())
 }
 
 #[test]
@@ -162,13 +89,6 @@ fn a_failed_fetch_is_a_fault(rt: HostRuntime) -> Result<(), Fail> {
     let answered = answer_to(&rt, alloc, &["tform", "p.frm"], SQUARE, Failing::Fetch)?;
     assert!(rt; answered.bytes.is_empty());
     assert_eq!(rt; answered.code, 5);
-    Ok(())
-}
-
-#[test]
-fn an_included_text_is_fetched(rt: HostRuntime) -> Result<(), Fail> {
-    let printed = "\n   F =\n      y^2 + 2*x*y + x^2;\n\n";
-    assert!(rt; gives(&rt, rt.alloc(), INCLUDES, printed, 0)?);
     Ok(())
 }
 

@@ -1,6 +1,0 @@
-use Rattle.std.specs.List.Sorted.{IsStrictlySortedBy}
-use Rattle.tests_of_terms.proofs.terms.function.Goals as goal
-
-pub with_expression-requires-clause-rising : goal.with_expression-requires-clause-rising
-unfolding IsStrictlySortedBy
-with_expression-requires-clause-rising c = (tt, tt)
