@@ -8,11 +8,10 @@ use Rattle.form_ast.specs.declared.expr.Named.TheVariants.{Declared}
 use Rattle.form_ast.specs.declared.expr.Link.{Link}
 use Rattle.form_ast.specs.declared.expr.Link.TheVariants as links
 use Rattle.form_ast.specs.declared.expr.Restriction.{Restriction}
-use Rattle.form_ast.specs.declared.expr.Power.{Power}
 use Rattle.form_ast.specs.declared.expr.Piece.{Piece}
 use Rattle.form_ast.specs.declared.expr.Piece.TheVariants as pieces
-use Rattle.form_ast.specs.Building.{Lead, start, after, Begun, nothing, begun, a_field, Opened, in_parenthesis, in_call, Frame, Building, added, changed, with_power_on, with_name_on, marked_factor, argument_of, with_argument, build, tree_of}
-use Rattle.form_ast.specs.Syntax.{Label, named, wildcard, Entry, name_entry, number_entry, Sum, first, more, Product, one, times, over, Factor, factor, raised, Base, number, name, dot, delta, empty_call, call, parenthesis, Arguments, argument, further, Argument, expression, field, link_of, first_link, name_of, mark_of, piece_of_power, pieces_of_sum, pieces_of_product, pieces_of_factor, pieces_of_base, pieces_of_arguments, pieces_of_argument}
+use Rattle.form_ast.specs.Building.{Lead, start, after, Begun, nothing, begun, a_field, Opened, in_parenthesis, in_call, Frame, Building, added, changed, with_power_on, with_name_on, marked_factor, with_argument, build, tree_of}
+use Rattle.form_ast.specs.Syntax.{Label, named, wildcard, name_entry, number_entry, Sum, first, more, Product, one, times, over, Factor, factor, raised, Base, number, name, dot, delta, empty_call, call, parenthesis, Arguments, argument, further, Argument, expression, field, link_of, first_link, piece_of_power, pieces_of_sum, pieces_of_product, pieces_of_factor, pieces_of_base, pieces_of_arguments, pieces_of_argument}
 
 abbrev at : List Frame → Begun → Building
 at around inner = record { around = around; inner = inner }

@@ -1,5 +1,5 @@
 -- What a right side or a pattern may not have although its tokens are in order.
-use Rattle.std.specs.Prelude.{◌≡◌, ◌≢◌, ℕ, ◌+◌, ◌<◌, List, [], ◌∷◌, true, IsTrue, Option, Some, None, All}
+use Rattle.std.specs.Prelude.{◌≡◌, ◌≢◌, ℕ, ◌+◌, ◌<◌, List, [], true, IsTrue, Option, Some, None, All}
 use Rattle.form_ast.specs.declared.expr.Sign.{Sign}
 use Rattle.form_ast.specs.declared.expr.Sign.TheVariants.{Minus}
 use Rattle.form_ast.specs.declared.expr.Power.{Power}

@@ -2,6 +2,7 @@ ghost use Rattle.std.specs.Prelude.{◌≡◌};
 
 use crate::{NameList, NumberList};
 use form_base::{Name, Spot};
+use form_number::Number;
 use std::marker::Model;
 
 /// A written sign.
@@ -22,14 +23,6 @@ pub enum Link {
     Over,
 }
 
-/// A written number.
-#[derive(Clone, Copy, Debug, PartialEq, Eq)]
-pub struct Number {
-    /// Its value, or 2^127 where that is larger.
-    pub value: u128,
-    pub spot: Spot,
-}
-
 /// A written name.
 #[derive(Debug, Drop, PartialEq, Eq)]
 pub struct Spelled {
@@ -47,7 +40,7 @@ pub enum Named {
 }
 
 /// A written number with its sign, where it has one.
-#[derive(Clone, Copy, Debug, PartialEq, Eq)]
+#[derive(Debug, Drop)]
 pub struct SignedNumber {
     pub sign: Option<Sign>,
     pub number: Number,
@@ -67,7 +60,7 @@ pub enum Restriction {
 }
 
 /// A written power: a number with a sign or none, in parentheses or without.
-#[derive(Clone, Copy, Debug, PartialEq, Eq)]
+#[derive(Debug, Drop)]
 pub struct Power {
     pub is_parenthesized: bool,
     pub sign: Option<Sign>,

@@ -1,17 +1,18 @@
 ghost use Rattle.std.specs.Prelude.{◌≡◌};
 
-use crate::{Number, Spelled};
+use crate::Spelled;
+use form_number::Number;
 use std::marker::Model;
 
 /// A written dimension.
-#[derive(Debug, Drop, PartialEq, Eq)]
+#[derive(Debug, Drop)]
 pub enum Dimension {
     Number(Number),
     Name(Spelled),
 }
 
 /// An index that is declared, and its dimension where one is written.
-#[derive(Debug, Drop, PartialEq, Eq)]
+#[derive(Debug, Drop)]
 pub struct SpelledIndex {
     pub name: Spelled,
     pub dimension: Option<Dimension>,

@@ -11,7 +11,7 @@ mod setting;
 mod statement;
 mod weight;
 
-pub use expr::{Expr, Link, Named, Number, Piece, Power, Restriction, Sign, SignedNumber, Spelled};
+pub use expr::{Expr, Link, Named, Piece, Power, Restriction, Sign, SignedNumber, Spelled};
 pub use index_list::{Dimension, IndexList, SpelledIndex};
 pub use long_expr::{LongExpr, append};
 pub use name_list::NameList;

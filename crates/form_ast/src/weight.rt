@@ -1,4 +1,5 @@
 use form_base::Name;
+use form_number::Numeral;
 
 /// What is joined with factors of the same key: a name alone, or a dot product of two, in either order. A wildcard is
 /// joined with wildcards alone.
@@ -14,9 +15,9 @@ pub enum Key {
 #[derive(Debug, Drop)]
 pub enum Weight {
     /// What may be joined, whether its power is below zero, and the size of this.
-    Keyed(Key, bool, u128),
+    Keyed(Key, bool, Numeral),
     /// Anything else, and the size of its power.
-    Lone(u128),
+    Lone(Numeral),
     /// A name to the power that a wildcard stands for.
     Free(Name),
 }

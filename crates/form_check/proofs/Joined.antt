@@ -16,7 +16,7 @@ use Rattle.form_check.specs.declared.joining.Factor.TheVariants as factors
 use Rattle.form_check.specs.declared.joining.Raw as raws
 use Rattle.form_check.specs.Pattern as trees
 use Rattle.form_check.specs.Pattern.{Raw, of_symbol, of_whole, of_dot, of_component, of_delta, of_function, in_word, both_sets, behind_calls, calls_of, alone_factors, stays, in_row, joined}
-use Rattle.form_check.specs.Joining.{times, flat, flat_factor, are_dots_alike, is_joined, join, alone, put, pieces_of, pieces_of_level}
+use Rattle.form_check.specs.Joining.{times, flat, flat_factor, are_dots_alike, is_joined, join, alone, put, pieces_of_level}
 
 -- ---- loops
 
@@ -62,10 +62,6 @@ put-in raw items self place old new same found value made =
     ap (λ (f : Factor). set items place f) (made ∙ ap (join raw) value)
     ∙ sym (put-joined raw items place old (subst (λ (fs : List Factor). position (is_joined raw) fs ≡ Some place) (sym same) found))
     ∙ ap (λ (fs : List Factor). put fs raw) same
-
-pub all-put : (f : Factor) (fs : List Factor) (old now next : List PatternPiece) → now ++ pieces_of_level (f ∷ fs) ≡ old → next ≡ now ++ pieces_of f → next ++ pieces_of_level fs ≡ old
-all-put f fs old now next is more =
-    ap (λ (ps : List PatternPiece). ps ++ pieces_of_level fs) more ∙ append_assoc now (pieces_of f) (pieces_of_level fs) ∙ is
 
 -- ---- trees
 

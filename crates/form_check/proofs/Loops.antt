@@ -1,5 +1,5 @@
 -- Loops over a list, up to the first refusal.
-use Rattle.std.proofs.Common.{◌≡◌, ℕ, zero, suc, ◌+◌, ◌<◌, ◌≤◌, List, [], ◌∷◌, ◌++◌, length, get_or, drop, Result, Ok, Err, refl, sym, ap, ◌∙◌, append_assoc, add-one, drop-cons, arith}
+use Rattle.std.proofs.Common.{◌≡◌, ℕ, suc, ◌+◌, ◌<◌, ◌≤◌, List, [], ◌∷◌, ◌++◌, length, get_or, drop, Result, Ok, Err, refl, sym, ap, ◌∙◌, append_assoc, add-one, drop-cons}
 use Rattle.std.proofs.lemmas.List.{drop_all, append-nil}
 use Rattle.form_check.specs.declared.error.CheckError.{CheckError}
 use Rattle.form_check.specs.declared.error.CheckError.TheVariants.{Refused, Memory}
@@ -65,9 +65,3 @@ listed-start {Y = Y} give xs = by (listed give xs)
     by : (r : Result (List Y) Refusal) → r ≡ behind [] r
     by (Ok ys) = refl
     by (Err e) = refl
-
--- an item is the same by any default
-pub item-same : {X : Type 0} (xs : List X) (i : ℕ) (d e : X) → i < length xs → get_or xs i d ≡ get_or xs i e
-item-same [] i d e within = absurd (omega arith)
-item-same (x ∷ xs) zero d e within = refl
-item-same (x ∷ xs) (suc i) d e within = item-same xs i d e (omega arith)

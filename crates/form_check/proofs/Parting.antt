@@ -23,7 +23,7 @@ use Rattle.form_check.specs.declared.walk.Place.TheVariants as places
 use Rattle.form_check.specs.declared.error.CheckError.{CheckError}
 use Rattle.form_check.specs.Refusal.{Refusal, IsRefused, ◌>>=◌}
 use Rattle.form_check.specs.RightSide.{Known, number_base, name_base, linked_base, largest_power, size_within, spelled_of, wrong_kind, number, name, vector, linked_to, head, lone}
-use Rattle.form_check.specs.Walking.{Walk, at, adds, may_name, is_over, power_at, name_power_at, by_name, ends_argument, alone_piece, alone_before, alone_at, is_single, misplaced_to_end, component_begun, called_by, ended_by, end_of_function, end_of_parenthesis, call_ended, closed, argument_ended, in_sum, argument_begun, ends_call, field_of, field_or_argument, in_arguments, behind_argument, dot_to, dot_ended, delta_ended, component_ended, taken_at, taken, walked}
+use Rattle.form_check.specs.Walking.{Walk, at, adds, may_name, is_over, power_at, name_power_at, by_name, ends_argument, alone_piece, alone_before, alone_at, is_single, misplaced_to_end, component_begun, called_by, ended_by, end_of_function, end_of_parenthesis, call_ended, closed, argument_ended, in_sum, argument_begun, ends_call, field_of, field_or_argument, behind_argument, dot_to, dot_ended, delta_ended, component_ended, taken_at, taken, walked}
 use Rattle.form_check.specs.Parting.{open_behind, begins_term}
 use Rattle.form_check.proofs.Binding.{bind-bind, bind-same}
 use Rattle.form_check.proofs.Loops.{IsRefused-before}

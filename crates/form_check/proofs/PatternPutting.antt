@@ -6,11 +6,10 @@ use Rattle.form_names.specs.declared.kind.Kind.TheVariants as kind
 use Rattle.form_names.specs.Names.{Entry}
 use Rattle.form_base.specs.declared.cause.Cause.TheVariants.{NumberRange}
 use Rattle.form_ast.specs.declared.expr.Link.TheVariants as links
-use Rattle.form_ast.specs.declared.expr.Number.{Number}
+use Rattle.form_number.specs.declared.number.Number.{Number}
 use Rattle.form_ast.specs.declared.expr.Named.TheVariants.{Declared, Imaginary}
 use Rattle.form_ast.specs.declared.expr.Spelled.{Spelled}
 use Rattle.form_ast.specs.declared.expr.Restriction.{Restriction}
-use Rattle.form_ast.specs.declared.expr.Power.{Power}
 use Rattle.form_ast.specs.declared.expr.Piece.{Piece}
 use Rattle.form_ast.specs.declared.expr.Piece.TheVariants as written
 use Rattle.form_ast.specs.Syntax as syntax
@@ -23,6 +22,7 @@ use Rattle.form_check.specs.declared.resolved.End as ends
 use Rattle.form_check.specs.declared.resolved.End.TheVariants as an_end
 use Rattle.form_check.specs.declared.putting.PatternEnd as put_ends
 use Rattle.form_check.specs.declared.putting.PatternEnd.TheVariants as an_end_put
+use Rattle.form_check.specs.declared.powers.Power.{Power}
 use Rattle.form_check.specs.Joining.{flat, begun, ended}
 use Rattle.form_check.specs.Pattern as trees
 use Rattle.form_check.specs.Pattern.{Raw}

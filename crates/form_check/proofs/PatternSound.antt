@@ -7,7 +7,6 @@ use Rattle.form_names.specs.declared.kind.Kind.TheVariants.{Symbol, Vector, Inde
 use Rattle.form_names.specs.Names.{Entry, kind_at}
 use Rattle.form_ast.specs.declared.expr.Named.{Named}
 use Rattle.form_ast.specs.declared.expr.Named.TheVariants.{Declared, Imaginary}
-use Rattle.form_ast.specs.declared.expr.Power.{Power}
 use Rattle.form_ast.specs.declared.expr.Piece.{Piece}
 use Rattle.form_ast.specs.Building.{tree_of}
 use Rattle.form_ast.specs.Patterns.{has_wildcard}
@@ -25,10 +24,11 @@ use Rattle.form_check.specs.declared.resolved.End as ends
 use Rattle.form_check.specs.declared.resolved.End.TheVariants as an_end
 use Rattle.form_check.specs.declared.resolved.Head as heads
 use Rattle.form_check.specs.declared.resolved.Head.TheVariants as a_head
+use Rattle.form_check.specs.declared.powers.Power.{Power}
 use Rattle.form_check.specs.Refusal.{Refusal, ◌>>=◌}
-use Rattle.form_check.specs.RightSide.{largest_exponent, largest_power, size_within, exponent, is_inverted, spelled_of, wrong, found, vector, named_end, fixed_end, head, symbol_named, alone, lone, argument, nothing_known, none_stands, sum, field_number}
+use Rattle.form_check.specs.RightSide.{largest_exponent, largest_power, counted, size_within, exponent, is_inverted, spelled_of, wrong, found, vector, named_end, fixed_end, head, symbol_named, alone, lone, argument, nothing_known, none_stands, sum, field_number}
 use Rattle.form_check.specs.Sets.{sets}
-use Rattle.form_check.specs.Pattern.{marked, both_sets, is_same_name, Raw, of_symbol, of_whole, of_dot, of_component, of_delta, of_function, in_word, symbol_raw, function_raw, raw_by_kind, raw_named, whole_raw, vector_name, dot_raw, PatternEnd, index_end, vector_end, marked_end, end_fixed, pattern_end, linked, linked_raw, delta_raw, empty_call_raw, only_end, component_end, component_raw, is_joined, behind_calls, calls_of, join, alone_factors, put, stays, in_row, joined, Made, ◌>>>◌, with_fixed, put_argument, sort_of, fixed_argument, any_by_sort, any_named, wild_argument, product_argument, call_raw, raised_raw, raws, raw, pattern_arguments, pattern_argument, raws_of, fields_of, kept, pattern_from, pattern_checked}
+use Rattle.form_check.specs.Pattern.{marked, both_sets, is_same_name, Raw, of_symbol, of_whole, of_dot, of_component, of_delta, of_function, in_word, symbol_raw, function_raw, raw_by_kind, raw_named, whole_raw, vector_name, dot_raw, PatternEnd, index_end, vector_end, marked_end, end_fixed, pattern_end, linked, linked_raw, delta_raw, empty_call_raw, only_end, component_end, component_raw, is_joined, behind_calls, calls_of, join, alone_factors, put, stays, in_row, joined, Made, ◌>>>◌, with_fixed, put_argument, sort_of, fixed_argument, any_by_sort, any_named, wild_argument, product_argument, call_raw, raised_raw, raws, raw, raw_to_power, pattern_arguments, pattern_argument, raws_of, fields_of, kept, pattern_from, pattern_checked}
 use Rattle.form_check.specs.Sound.{IsOfKind, IsPieceSound, IsNameSound, IsIndexNameSound, IsAnySound, IsPatternPieceSound, IsFixedSound, IsPatternSound}
 use Rattle.form_check.proofs.Growing.{bind-Ok, ok_same}
 use Rattle.form_check.proofs.Pieces.{found-sound, vector-sound, IsEndSound, named-end-sound, fixed-end-sound, IsHeadSound, head-sound, symbol-named-sound, fixed-sound}
@@ -443,18 +443,21 @@ module _ (names : List Entry) where
       raws-sound (syntax.over p f) fixed x h is = raws-sound p fixed x h is
 
       raw-sound : (f : syntax.Factor) (fixed : List tree.Argument) (x : List Raw × List tree.Argument) → All IsFixed fixed → raw names fields fixed f ≡ Ok x → AreMade (All IsRaw) x
-      raw-sound (syntax.factor (syntax.number n) power) fixed x h is = no-raws fixed x h is
-      raw-sound (syntax.factor (syntax.name n) power) fixed x h is = one-raw fixed (raw_named names n power (syntax.name_of n)) x h (λ w e. raw-named-sound n power (syntax.name_of n) w e) is
-      raw-sound (syntax.factor (syntax.dot p q) power) fixed x h is = one-raw fixed (dot_raw names p q power) x h (λ w e. dot-raw-sound p q power w e) is
-      raw-sound (syntax.factor (syntax.delta spot a b) power) fixed x h is = one-raw fixed (delta_raw names a b power) x h (λ w e. delta-raw-sound a b power w e) is
-      raw-sound (syntax.factor (syntax.empty_call n) power) fixed x h is =
+      raw-sound (syntax.factor b power) fixed x h is = raw-to-power-sound b (counted power) fixed x h is
+      raw-sound (syntax.raised b sign e) fixed x h is = raised-sound fixed b e x h is
+
+      raw-to-power-sound : (b : syntax.Base) (power : Option Power) (fixed : List tree.Argument) (x : List Raw × List tree.Argument) → All IsFixed fixed → raw_to_power names fields fixed b power ≡ Ok x → AreMade (All IsRaw) x
+      raw-to-power-sound (syntax.number n) power fixed x h is = no-raws fixed x h is
+      raw-to-power-sound (syntax.name n) power fixed x h is = one-raw fixed (raw_named names n power (syntax.name_of n)) x h (λ w e. raw-named-sound n power (syntax.name_of n) w e) is
+      raw-to-power-sound (syntax.dot p q) power fixed x h is = one-raw fixed (dot_raw names p q power) x h (λ w e. dot-raw-sound p q power w e) is
+      raw-to-power-sound (syntax.delta spot a b) power fixed x h is = one-raw fixed (delta_raw names a b power) x h (λ w e. delta-raw-sound a b power w e) is
+      raw-to-power-sound (syntax.empty_call n) power fixed x h is =
           one-raw fixed (head names (syntax.name_of n) >>= empty_call_raw names n power) x h
           (λ w e. let k = bind-Ok (head names (syntax.name_of n)) (empty_call_raw names n power) w e in empty-call-sound n power k.0 w (head-sound names none_stands (syntax.name_of n) k.0 k.1) k.2) is
-      raw-sound (syntax.factor (syntax.call n args) power) fixed x h is =
+      raw-to-power-sound (syntax.call n args) power fixed x h is =
           let k = bind-Ok (head names (syntax.name_of n)) (call_raw names fixed n args (pattern_arguments names fields fixed args) power) x is in
           call-sound fixed n args (pattern_arguments names fields fixed args) power k.0 x h (head-sound names none_stands (syntax.name_of n) k.0 k.1) (λ y e. arguments-sound args fixed y h e) k.2
-      raw-sound (syntax.factor (syntax.parenthesis s) power) fixed x h is = no-raws fixed x h is
-      raw-sound (syntax.raised b sign e) fixed x h is = raised-sound fixed b e x h is
+      raw-to-power-sound (syntax.parenthesis s) power fixed x h is = no-raws fixed x h is
 
       arguments-sound : (args : syntax.Arguments) (fixed : List tree.Argument) (x : pattern.Arguments × List tree.Argument) → All IsFixed fixed → pattern_arguments names fields fixed args ≡ Ok x → AreMade AreArguments x
       arguments-sound (syntax.argument a) fixed x h is =

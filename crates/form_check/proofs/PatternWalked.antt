@@ -11,7 +11,7 @@ use Rattle.form_ast.specs.declared.expr.Named.{Named}
 use Rattle.form_ast.specs.declared.expr.Named.TheVariants.{Declared}
 use Rattle.form_ast.specs.declared.expr.Spelled.{Spelled}
 use Rattle.form_ast.specs.declared.expr.Restriction.{Restriction}
-use Rattle.form_ast.specs.declared.expr.Power.{Power}
+use Rattle.form_ast.specs.declared.expr.Power as written_powers
 use Rattle.form_ast.specs.declared.expr.Piece.{Piece}
 use Rattle.form_ast.specs.declared.expr.Piece.TheVariants as written
 use Rattle.form_ast.specs.declared.setting.Setting.TheVariants.{Pattern}
@@ -36,9 +36,10 @@ use Rattle.form_check.specs.declared.pattern.Reading.{Reading}
 use Rattle.form_check.specs.declared.resolved.Head as heads
 use Rattle.form_check.specs.declared.resolved.Head.TheVariants as a_head
 use Rattle.form_check.specs.declared.resolved.Found.{Found}
+use Rattle.form_check.specs.declared.powers.Power.{Power}
 use Rattle.form_check.specs.Joining.{flat, begun, put, pieces_of_level}
 use Rattle.form_check.specs.Pattern as trees
-use Rattle.form_check.specs.Pattern.{Raw, Made, put_argument, fixed_argument, wild_argument, product_argument, any_by_sort, sort_of, pattern_argument, pattern_arguments, raw, raws_of, with_fixed}
+use Rattle.form_check.specs.Pattern.{Raw, Made, put_argument, fixed_argument, wild_argument, product_argument, any_by_sort, sort_of, pattern_argument, pattern_arguments, raw, raw_to_power, raws_of, with_fixed}
 use Rattle.form_check.specs.PatternWalking as walking
 use Rattle.form_check.specs.PatternWalking.{mark_at, behind_mark, front, is_wild, at, adds, opened, with_argument, in_product, in_arguments, in_fixed, wild_begun, fixed_begun, any_name, walked}
 use Rattle.form_check.specs.Refusal.{Refusal, ◌>>=◌}
@@ -108,7 +109,7 @@ module _ (names : List Entry) (stands : ℕ → Bool) (fields : List (List ℕ))
   mark-passed (syntax.named n) frames level fixed rest = refl
   mark-passed (syntax.wildcard n r) frames level fixed rest = refl
 
-  power-passed : (p : Power) (frames : List Frame) (level : List flat_factors.Factor) (fixed : List tree.Argument) (rest : List Piece) → W (in_a_product frames level fixed) (piece_of_power p ∷ rest) ≡ W (in_a_product frames level fixed) rest
+  power-passed : (p : written_powers.Power) (frames : List Frame) (level : List flat_factors.Factor) (fixed : List tree.Argument) (rest : List Piece) → W (in_a_product frames level fixed) (piece_of_power p ∷ rest) ≡ W (in_a_product frames level fixed) rest
   unfolding walked
   power-passed p frames level fixed rest = refl
 
@@ -147,7 +148,7 @@ module _ (names : List Entry) (stands : ℕ → Bool) (fields : List (List ℕ))
       by (Err e) = refl
 
   name-walked : (link : Link) (l : syntax.Label) (frames : List Frame) (level : List flat_factors.Factor) (fixed : List tree.Argument) (rest : List Piece) → mark_at rest ≡ None → name_power_at rest ≡ None
-      → W (in_a_product frames level fixed) (pieces_of_base link (syntax.name l) ++ rest) ≡ (raw names fields fixed (syntax.factor (syntax.name l) (power_at rest)) >>= behind frames level rest)
+      → W (in_a_product frames level fixed) (pieces_of_base link (syntax.name l) ++ rest) ≡ (raw_to_power names fields fixed (syntax.name l) (power_at rest) >>= behind frames level rest)
   name-walked link l frames level fixed rest bare unraised =
       let s : Reading = in_a_product frames level fixed in
       let list : List Piece = mark_of l ++ rest in
@@ -173,7 +174,7 @@ module _ (names : List Entry) (stands : ℕ → Bool) (fields : List (List ℕ))
       (λ next. mark-passed l frames next fixed raised ∙ by-name-passed sign e frames next fixed rest)
 
   dot-walked : (link : Link) (p q : syntax.Label) (frames : List Frame) (level : List flat_factors.Factor) (fixed : List tree.Argument) (rest : List Piece) → mark_at rest ≡ None
-      → W (in_a_product frames level fixed) (pieces_of_base link (syntax.dot p q) ++ rest) ≡ (raw names fields fixed (syntax.factor (syntax.dot p q) (power_at rest)) >>= behind frames level rest)
+      → W (in_a_product frames level fixed) (pieces_of_base link (syntax.dot p q) ++ rest) ≡ (raw_to_power names fields fixed (syntax.dot p q) (power_at rest) >>= behind frames level rest)
   dot-walked link p q frames level fixed rest bare =
       let s : Reading = in_a_product frames level fixed in
       let second : List Piece = written.EndOfDot (name_of q) ∷ (mark_of q ++ rest) in
@@ -205,7 +206,7 @@ module _ (names : List Entry) (stands : ℕ → Bool) (fields : List (List ℕ))
       by (Ok b) = ap (λ (r : Result raws.Raw Refusal). adds s places.Product r) (linked-same names a b (power_at rest))
 
   delta-walked : (link : Link) (spot : _) (a b : syntax.Entry) (frames : List Frame) (level : List flat_factors.Factor) (fixed : List tree.Argument) (rest : List Piece)
-      → W (in_a_product frames level fixed) (pieces_of_base link (syntax.delta spot a b) ++ rest) ≡ (raw names fields fixed (syntax.factor (syntax.delta spot a b) (power_at rest)) >>= behind frames level rest)
+      → W (in_a_product frames level fixed) (pieces_of_base link (syntax.delta spot a b) ++ rest) ≡ (raw_to_power names fields fixed (syntax.delta spot a b) (power_at rest) >>= behind frames level rest)
   delta-walked link spot a b frames level fixed rest =
       let s : Reading = in_a_product frames level fixed in
       let second : List Piece = pieces_of_entry b ++ (written.EndOfDelta ∷ rest) in
@@ -294,7 +295,7 @@ module _ (names : List Entry) (stands : ℕ → Bool) (fields : List (List ℕ))
     empty-by (Ok (a_head.Function id is_commuting)) = empty-function id is_commuting
     empty-by (Ok (a_head.Vector id)) = empty-vector id
 
-    empty-walked : (link : Link) → W s0 (pieces_of_base link (syntax.empty_call l) ++ rest) ≡ (raw names fields fixed (syntax.factor (syntax.empty_call l) (power_at rest)) >>= behind frames level rest)
+    empty-walked : (link : Link) → W s0 (pieces_of_base link (syntax.empty_call l) ++ rest) ≡ (raw_to_power names fields fixed (syntax.empty_call l) (power_at rest) >>= behind frames level rest)
     empty-walked link =
         ap (λ (t : List Piece). W s0 (written.Call link (name_of l) ∷ t)) (append_assoc (mark_of l) (written.EndOfCall ∷ []) rest)
         ∙ called-step s0 link (name_of l) empty_list frames level fixed
@@ -495,7 +496,7 @@ module _ (names : List Entry) (stands : ℕ → Bool) (fields : List (List ℕ))
   call-by l args frames level fixed rest inner (Ok (a_head.Vector id)) = vector-called l frames level fixed rest id args
 
   call-walked : (link : Link) (l : syntax.Label) (args : syntax.Arguments) (frames : List Frame) (level : List flat_factors.Factor) (fixed : List tree.Argument) (rest : List Piece) → Inner l frames level fixed rest args
-      → W (in_a_product frames level fixed) (pieces_of_base link (syntax.call l args) ++ rest) ≡ (raw names fields fixed (syntax.factor (syntax.call l args) (power_at rest)) >>= behind frames level rest)
+      → W (in_a_product frames level fixed) (pieces_of_base link (syntax.call l args) ++ rest) ≡ (raw_to_power names fields fixed (syntax.call l args) (power_at rest) >>= behind frames level rest)
   call-walked link l args frames level fixed rest inner =
       ap (λ (t : List Piece). W (in_a_product frames level fixed) (written.Call link (name_of l) ∷ t))
       (append_assoc (mark_of l ++ pieces_of_arguments args) (written.EndOfCall ∷ []) rest ∙ append_assoc (mark_of l) (pieces_of_arguments args) (written.EndOfCall ∷ rest))
@@ -734,7 +735,7 @@ module _ (names : List Entry) (stands : ℕ → Bool) (fields : List (List ℕ))
         → W (in_a_product frames level fixed) (pieces_of_factor link f ++ rest) ≡ (raw names fields fixed f >>= behind frames level rest)
     factor-walked opened (syntax.factor b None) link frames level fixed rest plain h lawful =
         base-walked opened b link frames level fixed rest plain.mark plain.by_name h lawful.0
-        ∙ ap (λ (power : Option Power). raw names fields fixed (syntax.factor b power) >>= behind frames level rest) plain.power
+        ∙ ap (λ (power : Option Power). raw_to_power names fields fixed b power >>= behind frames level rest) plain.power
     factor-walked opened (syntax.factor b (Some p)) link frames level fixed rest plain h lawful =
         ap (W (in_a_product frames level fixed)) (append_assoc (pieces_of_base link b) (piece_of_power p ∷ []) rest)
         ∙ base-walked opened b link frames level fixed (piece_of_power p ∷ rest) refl refl h lawful.0
@@ -749,7 +750,7 @@ module _ (names : List Entry) (stands : ℕ → Bool) (fields : List (List ℕ))
 
     -- a base with the power that follows
     base-walked : (opened : ℕ) → (b : syntax.Base) (link : Link) (frames : List Frame) (level : List flat_factors.Factor) (fixed : List tree.Argument) (rest : List Piece) → mark_at rest ≡ None → name_power_at rest ≡ None → IsTrue (is_pattern_base b) → IsLawfulBase Pattern opened b
-        → W (in_a_product frames level fixed) (pieces_of_base link b ++ rest) ≡ (raw names fields fixed (syntax.factor b (power_at rest)) >>= behind frames level rest)
+        → W (in_a_product frames level fixed) (pieces_of_base link b ++ rest) ≡ (raw_to_power names fields fixed b (power_at rest) >>= behind frames level rest)
     base-walked opened (syntax.number n) link frames level fixed rest bare unraised h lawful = cc
     base-walked opened (syntax.name l) link frames level fixed rest bare unraised h lawful = name-walked link l frames level fixed rest bare unraised
     base-walked opened (syntax.dot p q) link frames level fixed rest bare unraised h lawful = dot-walked link p q frames level fixed rest bare

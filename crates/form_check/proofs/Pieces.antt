@@ -7,10 +7,9 @@ use Rattle.form_names.specs.declared.kind.Kind.TheVariants.{Symbol, Vector, Inde
 use Rattle.form_names.specs.Names.{Entry, lookup, kind_at}
 use Rattle.form_term.specs.declared.index.Index as indices
 use Rattle.form_term.specs.declared.index.Index.TheVariants as by_index
-use Rattle.form_ast.specs.declared.expr.Number.{Number}
+use Rattle.form_number.specs.declared.number.Number.{Number}
 use Rattle.form_ast.specs.declared.expr.Named.{Named}
 use Rattle.form_ast.specs.declared.expr.Named.TheVariants.{Declared, Imaginary}
-use Rattle.form_ast.specs.declared.expr.Power.{Power}
 use Rattle.form_ast.specs.declared.expr.Spelled.{Spelled}
 use Rattle.form_ast.specs.Syntax as syntax
 use Rattle.form_tree.specs.declared.tree.Link.{Link}
@@ -26,8 +25,9 @@ use Rattle.form_check.specs.declared.resolved.End.TheVariants as an_end
 use Rattle.form_check.specs.declared.resolved.Found.{Found}
 use Rattle.form_check.specs.declared.resolved.Head as heads
 use Rattle.form_check.specs.declared.resolved.Head.TheVariants as a_head
+use Rattle.form_check.specs.declared.powers.Power.{Power}
 use Rattle.form_check.specs.Refusal.{Refusal, ◌>>=◌}
-use Rattle.form_check.specs.RightSide.{Known, is_wildcard, field_number, wrong, spelled_of, size_within, exponent, number_exponent, has_minus, is_minus, is_below_zero, is_inverted, size_alone, largest_number, largest_exponent, largest_power, largest_index, number, symbol, found, found_as, found_at, by_kind, name, vector, vector_of, dot, end, named_end, fixed_end, end_of, linked, linked_index, linked_to, delta, head, head_of, alone, only_end, component_end, call_by, call, empty_call_by, empty_call, lone, lone_named, lone_at, lone_of, argument, none_stands, symbol_factor, symbol_named, symbol_of, number_base, symbol_base, base_alone, base_by_kind, name_base, dot_base, linked_index_base, linked_base, delta_base, empty_call_base, call_base, sum, product, factor, to_power, base, arguments, one_argument}
+use Rattle.form_check.specs.RightSide.{Known, is_wildcard, field_number, wrong, spelled_of, counted, size_within, exponent, number_exponent, has_minus, is_minus, is_below_zero, is_inverted, size_alone, largest_number, largest_exponent, largest_power, largest_index, number, symbol, found, found_as, found_at, by_kind, name, vector, vector_of, dot, end, named_end, fixed_end, end_of, linked, linked_index, linked_to, delta, head, head_of, alone, only_end, component_end, call_by, empty_call_by, lone, lone_named, lone_at, lone_of, argument, none_stands, symbol_factor, symbol_named, symbol_of, number_base, symbol_base, base_alone, base_by_kind, name_base, dot_base, linked_index_base, linked_base, delta_base, empty_call_base, call_base, sum, product, factor, to_power, base, arguments, one_argument}
 use Rattle.form_check.specs.Sound.{IsOfKind, IsIndexSound, IsBaseSound, IsPieceSound}
 use Rattle.form_check.proofs.Growing.{bind-Ok, if-Ok, ok_same}
 
@@ -462,7 +462,7 @@ mutual
       (All-append (P names stands) (tree.pieces_of_product link a.0) (tree.pieces_of_factor Times g.0) (product-sound names stands known p a.0 a.1 link) (factor-sound names stands known true f g.0 g.1 Times))
 
   factor-sound : (names : List Entry) (stands : ℕ → Bool) (known : Known) (is_over : Bool) (f : syntax.Factor) (g : tree.Factor) → factor names stands known is_over f ≡ Ok g → IsFactorSound names stands g
-  factor-sound names stands known is_over (syntax.factor b power) g is = to-power-sound names stands known is_over b power g is
+  factor-sound names stands known is_over (syntax.factor b power) g is = to-power-sound names stands known is_over b (counted power) g is
   factor-sound names stands known is_over (syntax.raised b sign n) g is =
       raised-sound names stands (base names stands known is_over b) is_over (is_minus sign) (syntax.name_of n) g (λ c e. base-sound names stands known is_over b c e) is
 

@@ -5,7 +5,6 @@ use Rattle.std.proofs.lemmas.List.Elements.{All-nil, All-head, All-tail, All-pus
 use Rattle.form_names.specs.declared.kind.Kind.{Kind}
 use Rattle.form_names.specs.declared.kind.Kind.TheVariants.{Symbol, Vector, Function, CommutingFunction, Expression, Set}
 use Rattle.form_names.specs.declared.kind.Kind.TheVariants as kinds
-use Rattle.form_names.specs.declared.kind.Dimension.{Dimension}
 use Rattle.form_term.specs.declared.index.Index.{Index}
 use Rattle.form_term.specs.declared.index.Index.TheVariants as indices
 use Rattle.form_names.specs.Names.{Entry, lookup, kind_at}

@@ -8,7 +8,7 @@ use Rattle.form_ast.specs.declared.expr.Link.{Link}
 use Rattle.form_ast.specs.declared.expr.Link.TheVariants as links
 use Rattle.form_ast.specs.declared.expr.Named.{Named}
 use Rattle.form_ast.specs.declared.expr.Spelled.{Spelled}
-use Rattle.form_ast.specs.declared.expr.Power.{Power}
+use Rattle.form_ast.specs.declared.expr.Power as written_powers
 use Rattle.form_ast.specs.declared.expr.Piece.{Piece}
 use Rattle.form_ast.specs.declared.expr.Piece.TheVariants as written
 use Rattle.form_ast.specs.Lawful.{HasNoParenthesis, IsDivisor}
@@ -24,6 +24,7 @@ use Rattle.form_check.specs.declared.resolved.End.TheVariants as an_end
 use Rattle.form_check.specs.declared.resolved.Head as heads
 use Rattle.form_check.specs.declared.resolved.Head.TheVariants as a_head
 use Rattle.form_check.specs.declared.walk.Place.TheVariants as places
+use Rattle.form_check.specs.declared.powers.Power.{Power}
 use Rattle.form_check.specs.Refusal.{Refusal, ◌>>=◌}
 use Rattle.form_check.specs.RightSide.{Known, field_number, is_minus, first_misplaced, largest_exponent, largest_power, size_within, exponent, spelled_of, wrong, number, name, vector, dot, end, linked_to, delta, head, alone, only_end, component_end, call_by, empty_call_by, lone, argument, none_stands, symbol_named, number_base, name_base, dot_base, linked_base, delta_base, empty_call_base, call_base, sum, product, factor, to_power, base, arguments, one_argument}
 use Rattle.form_check.specs.Walking.{Walk, power_at, name_power_at, exponent_by, by_name, ended_by, end_of_function, end_of_parenthesis, alone_piece, alone_end, entry_piece, first_given, second_given, component_given, at, moved, link_of, is_over, with_factor, adds, may_name, ends_argument, alone_before, alone_at, is_single, misplaced_to_end, component_begun, called_by, argument_begun, in_arguments, in_sum, walked}
@@ -542,7 +543,7 @@ module _ (names : List Entry) (stands : ℕ → Bool) (known : Known) where
       ∙ sym (bind-bind r (λ q. f >>= (λ g. Ok (tree.times q g))) (λ q. W (in_a_sum (out ++ tree.pieces_of_product (link_of link) q) calls) rest))
 
   -- a power was looked at before
-  power-passed : (p : Power) (out : List resolved.Piece) (calls : ℕ) (rest : List Piece) → W (in_a_sum out calls) (syntax.piece_of_power p ∷ rest) ≡ W (in_a_sum out calls) rest
+  power-passed : (p : written_powers.Power) (out : List resolved.Piece) (calls : ℕ) (rest : List Piece) → W (in_a_sum out calls) (syntax.piece_of_power p ∷ rest) ≡ W (in_a_sum out calls) rest
   unfolding walked
   power-passed p out calls rest = refl
 

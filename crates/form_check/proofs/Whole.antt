@@ -59,11 +59,6 @@ inside-walked names stands known law pattern list lawful =
     ∙ sym (bind-bind (sum names none_stands known s) (λ t. Ok (at (pieces_of_sum t) Sum 1)) (λ w. Ok w.pieces))
     ∙ ap made (sym (walked-inside names stands known s (bare-right pattern list lawful) []) ∙ ap (walked names stands known (at [] Sum 1)) (sym lawful.pieces))
 
-pub inside-from : (names : List Entry) (stands : ℕ → Bool) (known : Known) → ((tree : syntax.Sum) → tree_of (syntax.pieces_of_sum tree) ≡ Some tree) → (start : Walk) (pattern list : List Piece) → AreRight pattern list → start ≡ at [] Sum 1
-    → right_side names none_stands known list ≡ made (walked names stands known start list)
-inside-from names stands known law start pattern list lawful is =
-    inside-walked names stands known law pattern list lawful ∙ ap (λ (s : Walk). made (walked names stands known s list)) (sym is)
-
 -- ---- an argument of a pattern, without wildcards
 
 -- a sum that is alone is seen to be so

@@ -7,7 +7,6 @@ use Rattle.form_names.specs.declared.kind.Kind.TheVariants as kind
 use Rattle.form_names.specs.Names.{Entry, lookup}
 use Rattle.form_ast.specs.declared.expr.Named.{Named}
 use Rattle.form_ast.specs.declared.expr.Named.TheVariants.{Declared, Imaginary}
-use Rattle.form_ast.specs.declared.expr.Power.{Power}
 use Rattle.form_ast.specs.declared.expr.Piece.{Piece}
 use Rattle.form_ast.specs.declared.expr.Piece.TheVariants as written
 use Rattle.form_ast.specs.Building.{tree_of}
@@ -26,8 +25,9 @@ use Rattle.form_check.specs.declared.resolved.End as ends
 use Rattle.form_check.specs.declared.resolved.End.TheVariants as an_end
 use Rattle.form_check.specs.declared.resolved.Head as heads
 use Rattle.form_check.specs.declared.resolved.Head.TheVariants as a_head
+use Rattle.form_check.specs.declared.powers.Power.{Power}
 use Rattle.form_check.specs.Refusal.{Refusal, ◌>>=◌}
-use Rattle.form_check.specs.RightSide.{Known, nothing_known, field_number, largest_exponent, largest_power, size_within, exponent, is_inverted, spelled_of, wrong, wrong_kind, found, vector, named_end, fixed_end, head, symbol_named, alone, lone, argument, first_misplaced, none_stands, sum}
+use Rattle.form_check.specs.RightSide.{Known, nothing_known, field_number, largest_exponent, largest_power, counted, size_within, exponent, is_inverted, spelled_of, wrong, wrong_kind, found, vector, named_end, fixed_end, head, symbol_named, alone, lone, argument, first_misplaced, none_stands, sum}
 use Rattle.form_check.specs.Sets.{sets}
 
 -- ---- names
@@ -269,16 +269,20 @@ abbrev mutual
   raws names fields fixed (syntax.over p f) = raws names fields fixed p
 
   pub raw : List Entry → List (List ℕ) → List tree.Argument → syntax.Factor → Made (List Raw)
-  raw names fields fixed (syntax.factor (syntax.number n) power) = Ok ([], fixed)
-  raw names fields fixed (syntax.factor (syntax.name n) power) = with_fixed fixed (raw_named names n power (syntax.name_of n) >>= (λ r. Ok (r ∷ [])))
-  raw names fields fixed (syntax.factor (syntax.dot p q) power) = with_fixed fixed (dot_raw names p q power >>= (λ r. Ok (r ∷ [])))
-  raw names fields fixed (syntax.factor (syntax.delta spot a b) power) = with_fixed fixed (delta_raw names a b power >>= (λ r. Ok (r ∷ [])))
-  raw names fields fixed (syntax.factor (syntax.empty_call n) power) =
-      with_fixed fixed (head names (syntax.name_of n) >>= empty_call_raw names n power >>= (λ r. Ok (r ∷ [])))
-  raw names fields fixed (syntax.factor (syntax.call n args) power) =
-      head names (syntax.name_of n) >>= call_raw names fixed n args (pattern_arguments names fields fixed args) power
-  raw names fields fixed (syntax.factor (syntax.parenthesis s) power) = Ok ([], fixed)
+  raw names fields fixed (syntax.factor b power) = raw_to_power names fields fixed b (counted power)
   raw names fields fixed (syntax.raised b sign e) = raised_raw names fixed b e
+
+  -- a base to a power that is a number
+  pub raw_to_power : List Entry → List (List ℕ) → List tree.Argument → syntax.Base → Option Power → Made (List Raw)
+  raw_to_power names fields fixed (syntax.number n) power = Ok ([], fixed)
+  raw_to_power names fields fixed (syntax.name n) power = with_fixed fixed (raw_named names n power (syntax.name_of n) >>= (λ r. Ok (r ∷ [])))
+  raw_to_power names fields fixed (syntax.dot p q) power = with_fixed fixed (dot_raw names p q power >>= (λ r. Ok (r ∷ [])))
+  raw_to_power names fields fixed (syntax.delta spot a b) power = with_fixed fixed (delta_raw names a b power >>= (λ r. Ok (r ∷ [])))
+  raw_to_power names fields fixed (syntax.empty_call n) power =
+      with_fixed fixed (head names (syntax.name_of n) >>= empty_call_raw names n power >>= (λ r. Ok (r ∷ [])))
+  raw_to_power names fields fixed (syntax.call n args) power =
+      head names (syntax.name_of n) >>= call_raw names fixed n args (pattern_arguments names fields fixed args) power
+  raw_to_power names fields fixed (syntax.parenthesis s) power = Ok ([], fixed)
 
   pub pattern_arguments : List Entry → List (List ℕ) → List tree.Argument → syntax.Arguments → Made pattern.Arguments
   pattern_arguments names fields fixed (syntax.argument a) = pattern_argument names fields fixed a >>> (λ x seen. Ok (pattern.further x pattern.empty, seen))

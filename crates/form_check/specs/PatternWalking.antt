@@ -9,7 +9,6 @@ use Rattle.form_ast.specs.declared.expr.Named.{Named}
 use Rattle.form_ast.specs.declared.expr.Named.TheVariants.{Declared, Imaginary}
 use Rattle.form_ast.specs.declared.expr.Spelled.{Spelled}
 use Rattle.form_ast.specs.declared.expr.Restriction.{Restriction}
-use Rattle.form_ast.specs.declared.expr.Power.{Power}
 use Rattle.form_ast.specs.declared.expr.Link.TheVariants as links
 use Rattle.form_ast.specs.declared.expr.Piece.{Piece}
 use Rattle.form_ast.specs.declared.expr.Piece.TheVariants as written
@@ -34,6 +33,7 @@ use Rattle.form_check.specs.declared.pattern.Place.{Place}
 use Rattle.form_check.specs.declared.pattern.Place.TheVariants as places
 use Rattle.form_check.specs.declared.pattern.Frame.{Frame}
 use Rattle.form_check.specs.declared.pattern.Reading.{Reading}
+use Rattle.form_check.specs.declared.powers.Power.{Power}
 use Rattle.form_check.specs.Joining.{begun, ended, put, pieces_of_level}
 use Rattle.form_check.specs.Pattern.{sort_of}
 use Rattle.form_check.specs.Refusal.{Refusal, ◌>>=◌}

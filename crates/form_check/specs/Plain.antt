@@ -3,7 +3,7 @@ use Rattle.std.specs.Prelude.{ℕ, Bool, true, false, ◌&&◌, not, nat_le, Lis
 use Rattle.form_names.specs.declared.kind.Kind as kinds
 use Rattle.form_names.specs.declared.kind.Kind.TheVariants.{Symbol}
 use Rattle.form_names.specs.Names.{Entry, lookup, kind_at}
-use Rattle.form_ast.specs.declared.expr.Number.{Number}
+use Rattle.form_number.specs.declared.number.Number.{Number}
 use Rattle.form_ast.specs.declared.expr.Spelled.{Spelled}
 use Rattle.form_ast.specs.declared.expr.Named.{Named}
 use Rattle.form_ast.specs.declared.expr.Named.TheVariants.{Declared, Imaginary}

@@ -12,8 +12,9 @@ use Rattle.form_term.specs.declared.index.Index as indices
 use Rattle.form_term.specs.declared.index.Index.TheVariants as by_index
 use Rattle.form_ast.specs.declared.expr.Sign.{Sign}
 use Rattle.form_ast.specs.declared.expr.Sign.TheVariants as signs
-use Rattle.form_ast.specs.declared.expr.Number.{Number}
-use Rattle.form_ast.specs.declared.expr.Power.{Power}
+use Rattle.form_number.specs.declared.number.Number.{Number}
+use Rattle.form_number.specs.Numbers.{capped}
+use Rattle.form_ast.specs.declared.expr.Power as written_powers
 use Rattle.form_ast.specs.declared.expr.Spelled.{Spelled}
 use Rattle.form_ast.specs.declared.expr.Named.{Named}
 use Rattle.form_ast.specs.declared.expr.Named.TheVariants.{Declared, Imaginary}
@@ -28,6 +29,7 @@ use Rattle.form_check.specs.declared.resolved.End.TheVariants as an_end
 use Rattle.form_check.specs.declared.resolved.Head as heads
 use Rattle.form_check.specs.declared.resolved.Head.TheVariants as a_head
 use Rattle.form_check.specs.declared.resolved.Found.{Found}
+use Rattle.form_check.specs.declared.powers.Power.{Power}
 use Rattle.form_check.specs.Refusal.{Refusal, refused, ◌>>=◌}
 
 -- ---- numbers and powers
@@ -46,6 +48,11 @@ largest_power = 1000
 -- the largest fixed index
 abbrev pub largest_index : ℕ
 largest_index = 127
+
+-- A written power as far as limits ask: one past 2^127-1 is past each of them, and counts as 2^127.
+abbrev pub counted : Option written_powers.Power → Option Power
+counted None = None
+counted (Some power) = Some (record { sign = power.sign; number = capped power.number })
 
 -- the size of a power, which has a limit; 1 where none is written
 abbrev pub size_within : ℕ → Option Power → Result ℕ Refusal
@@ -389,7 +396,7 @@ abbrev mutual
 
   -- a factor, which stands after `/` or not
   pub factor : List Entry → (ℕ → Bool) → Known → Bool → syntax.Factor → Result tree.Factor Refusal
-  factor names stands known is_over (syntax.factor b power) = to_power names stands known is_over b power
+  factor names stands known is_over (syntax.factor b power) = to_power names stands known is_over b (counted power)
   factor names stands known is_over (syntax.raised b sign n) =
       base names stands known is_over b >>= (λ x. symbol_named names (syntax.name_of n) >>= (λ id. Ok (tree.raised x is_over (is_minus sign) id)))
 

@@ -6,7 +6,7 @@ use Rattle.form_ast.specs.declared.expr.Link.TheVariants as links
 use Rattle.form_ast.specs.declared.expr.Named.{Named}
 use Rattle.form_ast.specs.declared.expr.Sign.{Sign}
 use Rattle.form_ast.specs.Syntax as syntax
-use Rattle.form_ast.specs.declared.expr.Power.{Power}
+use Rattle.form_number.specs.Numbers.{capped}
 use Rattle.form_ast.specs.declared.expr.Piece.{Piece}
 use Rattle.form_ast.specs.declared.expr.Piece.TheVariants as written
 use Rattle.form_tree.specs.declared.tree.Link as resolved_link
@@ -23,6 +23,7 @@ use Rattle.form_check.specs.declared.resolved.Linked as linked_ends
 use Rattle.form_check.specs.declared.resolved.Linked.TheVariants as a_link
 use Rattle.form_check.specs.declared.resolved.Head as heads
 use Rattle.form_check.specs.declared.resolved.Head.TheVariants as a_head
+use Rattle.form_check.specs.declared.powers.Power.{Power}
 use Rattle.form_check.specs.declared.walk.Place.{Place}
 use Rattle.form_check.specs.declared.walk.Place.TheVariants as places
 use Rattle.form_check.specs.declared.walk.Walk as walks
@@ -71,7 +72,7 @@ may_name calls stands id = (calls == 0) && stands id
 
 -- the power of the factor that ends before these, where it has one
 abbrev pub power_of : Piece → Option Power
-power_of (written.Raised is_parenthesized sign n) = Some (record { is_parenthesized = is_parenthesized; sign = sign; number = n })
+power_of (written.Raised is_parenthesized sign n) = Some (record { sign = sign; number = capped n })
 power_of _ = None
 
 abbrev pub power_at : List Piece → Option Power

@@ -10,7 +10,8 @@ ghost use Rattle.form_check.specs.Walking.{misplaced_to_end, is_single as is_sin
 use crate::CheckError;
 use crate::kinds::{lone, misplaced, wrong_delta, wrong_name};
 use crate::known::Known;
-use form_ast::{Link, Named, Power, Sign};
+use crate::powers::Power;
+use form_ast::{Link, Named, Sign};
 use form_names::Names;
 use form_tree::Piece;
 use std::alloc::{AllocError, Global};
@@ -20,10 +21,9 @@ fn power_of(piece: &form_ast::Piece) -> Option<Power>
     ensures { result ≡ walking.power_of piece.now }
 {
     match piece {
-        form_ast::Piece::Raised(is_parenthesized, sign, number) => Some(Power {
-            is_parenthesized: *is_parenthesized,
+        form_ast::Piece::Raised(_, sign, number) => Some(Power {
             sign: *sign,
-            number: *number,
+            number: number.capped(),
         }),
         _ => None,
     }
@@ -48,10 +48,8 @@ pub fn plain_power(rest: &[form_ast::Piece], most: u32) -> Option<(bool, u32)>
 {
     match rest {
         [form_ast::Piece::Raised(_, sign, number), ..] => {
-            if number.value > u128::from(most) {
-                return None;
-            }
-            Some((matches!(sign, Some(Sign::Minus)), number.value as u32))
+            let size = number.up_to(u128::from(most))?;
+            Some((matches!(sign, Some(Sign::Minus)), size as u32))
         }
         [form_ast::Piece::RaisedByName(_, _), ..] => None,
         _ => Some((false, 1)),

@@ -12,16 +12,17 @@ use crate::ahead::power_at;
 use crate::kinds::{found, wrong_name};
 use crate::known::Known;
 use crate::powers::{
-    LARGEST_EXPONENT, LARGEST_NUMBER, LARGEST_POWER, exponent, is_inverted, is_over, link_of,
-    number_exponent, size_of,
+    LARGEST_EXPONENT, LARGEST_NUMBER, LARGEST_POWER, Power, exponent, is_inverted, is_over,
+    link_of, number_exponent, size_of,
 };
 use crate::raised::{exponent_of, name_power, number_base, symbol_base, symbol_named};
 use crate::resolved::Found;
 use crate::standing::Standing;
 use crate::walk::{Walk, put};
-use form_ast::{Link, Named, Number, Power, Sign};
+use form_ast::{Link, Named, Sign};
 use form_base::{Cause, Id};
 use form_names::{Kind, Names};
+use form_number::Number;
 use form_tree::{Base, Natural, Piece};
 use std::alloc::{AllocError, Global};
 
@@ -32,10 +33,10 @@ impl Walk {
         alloc: Global,
         names: &Names,
         link: Link,
-        number: Number,
+        number: &Number,
         rest: &[form_ast::Piece],
     ) -> Result<(), CheckError>
-        ensures gives { Gives (λ _. walk_of self.new) result (adds (walk_of self.old) link (walking.by_power names.now (walking.is_over link) rest.now (number_base_of number) (number_of (walking.is_over link) number (walking.power_at rest.now)))) }
+        ensures gives { Gives (λ _. walk_of self.new) result (adds (walk_of self.old) link (walking.by_power names.now (walking.is_over link) rest.now (number_base_of number.now) (number_of (walking.is_over link) number.now (walking.power_at rest.now)))) }
         ensures calls { OnOk result (self.new.calls ≡ self.old.calls) }
     {
         let Some((sign, by)) = name_power(rest) else {
@@ -49,20 +50,20 @@ impl Walk {
     fn number_to(
         &mut self,
         link: Link,
-        number: Number,
+        number: &Number,
         power: Option<Power>,
     ) -> Result<(), CheckError>
-        ensures gives { Gives (λ _. walk_of self.new) result (adds (walk_of self.old) link (number_of (walking.is_over link) number power)) }
+        ensures gives { Gives (λ _. walk_of self.new) result (adds (walk_of self.old) link (number_of (walking.is_over link) number.now power)) }
         ensures calls { OnOk result (self.new.calls ≡ self.old.calls) }
     {
-        if number.value > LARGEST_NUMBER {
-            return Err(CheckError::Refused(Cause::NumberRange, number.spot));
-        }
+        let Some(value) = number.up_to(LARGEST_NUMBER) else {
+            return Err(CheckError::Refused(Cause::NumberRange, number.spot()));
+        };
         let size = size_of(power, LARGEST_POWER)?;
         self.add(Piece::Number {
             link: link_of(link),
-            value: Natural::new(number.value),
-            power: number_exponent(number.value, is_over(link), power, size),
+            value: Natural::new(value),
+            power: number_exponent(value, is_over(link), power, size),
         })?;
         Ok(())
     }

@@ -41,20 +41,6 @@ pub enum Selection {
     Named(IdList),
 }
 
-impl Selection {
-    ghost use Rattle.form_check.specs.Standing.{means};
-
-    /// Whether an expression is meant.
-    pub fn means(&self, expression: Id) -> bool
-        ensures { result ≡ means self.now expression }
-    {
-        match self {
-            Selection::All => true,
-            Selection::Named(ids) => ids.as_slice().contains(&expression),
-        }
-    }
-}
-
 /// What is put in for what: an `id` or an `also`.
 #[derive(Debug, Drop)]
 pub struct Rewriting {

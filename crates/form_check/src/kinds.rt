@@ -10,9 +10,10 @@ ghost use Rattle.form_check.specs.Walking.{alone_piece, entry_piece, alone_end a
 use crate::CheckError;
 use crate::naming::copy_of;
 use crate::resolved::{End, Found, Head};
-use form_ast::{Link, Named, Number, Piece, Spelled};
+use form_ast::{Link, Named, Piece, Spelled};
 use form_base::{Cause, Id, Name, Spot};
 use form_names::{Kind, Names};
+use form_number::Number;
 use form_term::Index;
 use std::alloc::{AllocError, Global};
 
@@ -147,13 +148,13 @@ fn named_end(alloc: Global, names: &Names, named: &Named) -> Result<End, CheckEr
 }
 
 /// A fixed index.
-fn fixed_end(number: Number) -> Result<End, CheckError>
-    ensures { Gives (λ end. end) result (end_fixed number) }
+fn fixed_end(number: &Number) -> Result<End, CheckError>
+    ensures { Gives (λ end. end) result (end_fixed number.now) }
 {
-    if number.value > u128::from(LARGEST_INDEX) {
-        return Err(CheckError::Refused(Cause::NumberRange, number.spot));
-    }
-    Ok(End::Fixed(number.value as u32))
+    let Some(value) = number.up_to(u128::from(LARGEST_INDEX)) else {
+        return Err(CheckError::Refused(Cause::NumberRange, number.spot()));
+    };
+    Ok(End::Fixed(value as u32))
 }
 
 /// An argument of `d_`, where a piece is that.
@@ -161,7 +162,7 @@ pub fn entry_end(alloc: Global, names: &Names, piece: &Piece) -> Result<Option<E
     ensures { Gives (λ end. end) result (end_alone names.now (entry_piece piece.now)) }
 {
     match piece {
-        Piece::EntryNumber(number) => Ok(Some(fixed_end(*number)?)),
+        Piece::EntryNumber(number) => Ok(Some(fixed_end(number)?)),
         Piece::EntryName(named) => { Ok(Some(named_end(alloc, names, named)?)) }
         _ => Ok(None),
     }
@@ -172,7 +173,7 @@ pub fn alone_end(alloc: Global, names: &Names, piece: &Piece) -> Result<Option<E
     ensures { Gives (λ end. end) result (end_alone names.now (alone_piece piece.now)) }
 {
     match piece {
-        Piece::Number(Link::First, number) => Ok(Some(fixed_end(*number)?)),
+        Piece::Number(Link::First, number) => Ok(Some(fixed_end(number)?)),
         Piece::Name(Link::First, named) => { Ok(Some(named_end(alloc, names, named)?)) }
         _ => Ok(None),
     }

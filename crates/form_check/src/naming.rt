@@ -96,10 +96,10 @@ pub fn dimension(
 {
     match written {
         form_ast::Dimension::Number(number) => {
-            if number.value > u128::from(LARGEST_DIMENSION) {
-                return Err(CheckError::Refused(Cause::NumberRange, number.spot));
-            }
-            Ok(Dimension::Number(number.value as u32))
+            let Some(value) = number.up_to(u128::from(LARGEST_DIMENSION)) else {
+                return Err(CheckError::Refused(Cause::NumberRange, number.spot()));
+            };
+            Ok(Dimension::Number(value as u32))
         }
         form_ast::Dimension::Name(spelled) => {
             let found = found(alloc, names, spelled)?;

@@ -12,6 +12,7 @@ use crate::ahead::{ends_argument, power_at};
 use crate::joining::{Level, Pieces, Raw, begun};
 use crate::kinds::{found, head};
 use crate::known::Known;
+use crate::powers::Power;
 use crate::putting::{
     PatternEnd, behind_entry, behind_mark, component_put, dot_put, entry_taken, front_len,
     function_put, has_wildcard, linked_put, marked, power_behind, powered_put,
@@ -19,7 +20,7 @@ use crate::putting::{
 use crate::resolved::Head;
 use crate::right_side::argument;
 use crate::standing::Standing;
-use form_ast::{Link, Named, Piece, Power, Spelled};
+use form_ast::{Link, Named, Piece, Spelled};
 use form_base::Id;
 use form_names::{Kind, Names};
 use form_tree::{Pattern, PatternPiece, Sort, Tree};

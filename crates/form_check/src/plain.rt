@@ -14,8 +14,9 @@ use crate::kinds::{plain_head, plain_symbol};
 use crate::known::Known;
 use crate::powers::{LARGEST_EXPONENT, LARGEST_NUMBER, LARGEST_POWER, is_over, link_of};
 use crate::walk::{Place, Walk, put};
-use form_ast::{Link, Named, Number};
+use form_ast::{Link, Named};
 use form_names::Names;
+use form_number::Number;
 use form_tree::{Natural, Piece};
 use std::alloc::AllocError;
 
@@ -39,20 +40,18 @@ fn signed(is_below_zero: bool, size: u32) -> i32
 
 /// A number to a power that is a number.
 #[inline(always)]
-fn plain_number(link: Link, number: Number, rest: &[form_ast::Piece]) -> Option<Piece>
+fn plain_number(link: Link, number: &Number, rest: &[form_ast::Piece]) -> Option<Piece>
     ensures sum { IfSome result (λ factor. (names : List Entry) → (w : walking.Walk) →
-        walking.adds w link (walking.by_power names (walking.is_over link) rest.now (definition.number_base number) (definition.number (walking.is_over link) number (walking.power_at rest.now)))
+        walking.adds w link (walking.by_power names (walking.is_over link) rest.now (definition.number_base number.now) (definition.number (walking.is_over link) number.now (walking.power_at rest.now)))
         ≡ Ok (walking.at (w.pieces ++ factor ∷ []) Place.Sum w.calls)) }
-    ensures exactly { is_some result ≡ plain.is_plain_number number rest.now }
+    ensures exactly { is_some result ≡ plain.is_plain_number number.now rest.now }
 {
-    if number.value > LARGEST_NUMBER {
-        return None;
-    }
+    let value = number.up_to(LARGEST_NUMBER)?;
     let (is_minus, size) = plain_power(rest, LARGEST_POWER)?;
-    let is_inverse_of_zero = number.value == 0 && is_minus;
+    let is_inverse_of_zero = value == 0 && is_minus;
     Some(Piece::Number {
         link: link_of(link),
-        value: Natural::new(number.value),
+        value: Natural::new(value),
         power: signed(
             is_inverse_of_zero || is_below_zero(is_over(link), is_minus),
             size,
@@ -104,7 +103,7 @@ fn plain_factor(
     ensures exactly { is_some result ≡ plain.is_plain_factor names.now known.now piece.now rest.now }
 {
     match piece {
-        form_ast::Piece::Number(link, number) => plain_number(*link, *number, rest),
+        form_ast::Piece::Number(link, number) => plain_number(*link, number, rest),
         form_ast::Piece::Name(link, named) => plain_name(names, known, *link, named, rest),
         _ => None,
     }

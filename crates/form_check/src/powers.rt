@@ -5,8 +5,9 @@ ghost use Rattle.form_check.specs.RightSide as definition;
 ghost use Rattle.form_check.specs.Walking as walking;
 
 use crate::CheckError;
-use form_ast::{Link, Power, Sign};
+use form_ast::{Link, Sign};
 use form_base::Cause;
+use form_number::Capped;
 
 /// The largest number, 2^127-1.
 pub const LARGEST_NUMBER: u128 = 170_141_183_460_469_231_731_687_303_715_884_105_727;
@@ -16,6 +17,13 @@ pub const LARGEST_EXPONENT: u32 = 1_000_000_000;
 
 /// The largest power of anything else, in size.
 pub const LARGEST_POWER: u32 = 1_000;
+
+/// A written power as far as limits ask: its sign, and its number, capped.
+#[derive(Clone, Copy, Debug)]
+pub struct Power {
+    pub sign: Option<Sign>,
+    pub number: Capped,
+}
 
 pub fn link_of(link: Link) -> form_tree::Link
     ensures { result ≡ walking.link_of link }

@@ -12,11 +12,11 @@ use crate::joining::{Pieces, Raw, begun, ended};
 use crate::kinds::{
     alone_end, entry_end, found, misplaced, vector, wrong_delta, wrong_kind, wrong_name,
 };
-use crate::powers::{LARGEST_EXPONENT, LARGEST_POWER, exponent, is_inverted, size_of};
+use crate::powers::{LARGEST_EXPONENT, LARGEST_POWER, Power, exponent, is_inverted, size_of};
 use crate::raised::symbol_named;
 use crate::resolved::End;
 use crate::sets::sets;
-use form_ast::{Named, Piece, Power, Spelled};
+use form_ast::{Named, Piece, Spelled};
 use form_base::Id;
 use form_names::{Kind, Names};
 use form_tree::{IndexName, Name, PatternPiece};

@@ -11,9 +11,10 @@ use crate::kinds::{found, wrong_kind, wrong_name};
 use crate::known::Known;
 use crate::powers::{LARGEST_NUMBER, LARGEST_POWER, size_of};
 use crate::resolved::{End, Linked};
-use form_ast::{Named, Number, Piece, Sign};
+use form_ast::{Named, Piece, Sign};
 use form_base::{Cause, Id};
 use form_names::{Kind, Names};
+use form_number::Number;
 use form_term::{Component, Index};
 use form_tree::{Base, Exponent, Natural, Piece as Closing};
 use std::alloc::Global;
@@ -45,13 +46,13 @@ fn is_minus(sign: Option<Sign>) -> bool
 }
 
 /// A number as the base of such a power.
-pub fn number_base(number: Number) -> Result<Base, CheckError>
-    ensures { Gives walking.base_of result (definition.number_base number) }
+pub fn number_base(number: &Number) -> Result<Base, CheckError>
+    ensures { Gives walking.base_of result (definition.number_base number.now) }
 {
-    if number.value > LARGEST_NUMBER {
-        return Err(CheckError::Refused(Cause::NumberRange, number.spot));
-    }
-    Ok(Base::Number(Natural::new(number.value)))
+    let Some(value) = number.up_to(LARGEST_NUMBER) else {
+        return Err(CheckError::Refused(Cause::NumberRange, number.spot()));
+    };
+    Ok(Base::Number(Natural::new(value)))
 }
 
 /// The name of a symbol.

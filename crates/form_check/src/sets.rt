@@ -111,12 +111,12 @@ fn name_elements(alloc: Global, names: &Names, list: &[Spelled]) -> Result<Eleme
 fn number_element(number: &SignedNumber) -> Result<i128, CheckError>
     ensures { Gives (λ z. z) result (definition.number_element number.now) }
 {
-    let SignedNumber { sign, number } = *number;
-    if number.value > LARGEST_NUMBER {
-        return Err(CheckError::Refused(Cause::NumberRange, number.spot));
-    }
-    let size = number.value as i128;
-    if sign == Some(Sign::Minus) {
+    let SignedNumber { sign, number } = number;
+    let Some(value) = number.up_to(LARGEST_NUMBER) else {
+        return Err(CheckError::Refused(Cause::NumberRange, number.spot()));
+    };
+    let size = value as i128;
+    if *sign == Some(Sign::Minus) {
         Ok(-size)
     } else {
         Ok(size)

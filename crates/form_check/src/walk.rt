@@ -208,9 +208,7 @@ impl Walk {
         ensures calls { OnOk result (self.new.calls ≤ self.old.calls + 1) }
     {
         match piece {
-            form_ast::Piece::Number(link, number) => {
-                self.number(alloc, names, *link, *number, rest)
-            }
+            form_ast::Piece::Number(link, number) => self.number(alloc, names, *link, number, rest),
             form_ast::Piece::Name(link, named) => {
                 self.name(alloc, names, standing, known, *link, named, rest)
             }

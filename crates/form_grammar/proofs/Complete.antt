@@ -7,7 +7,7 @@ use Rattle.form_ast.specs.declared.expr.Sign.{Sign}
 use Rattle.form_ast.specs.declared.expr.Sign.TheVariants as signs
 use Rattle.form_ast.specs.declared.expr.Link.{Link}
 use Rattle.form_ast.specs.declared.expr.Link.TheVariants as links
-use Rattle.form_ast.specs.declared.expr.Number.{Number}
+use Rattle.form_number.specs.declared.number.Number.{Number}
 use Rattle.form_ast.specs.declared.expr.SignedNumber.{SignedNumber}
 use Rattle.form_ast.specs.declared.expr.Spelled.{Spelled}
 use Rattle.form_ast.specs.declared.expr.Named.TheVariants as names
@@ -625,10 +625,6 @@ with_power g (raised b sign n) opened kept link h reads rest f =
     ∙ reads (((by_terminal.Raise ∷ written_sign sign) ++ written_name n) ++ rest) tt
     ∙ label_raised g opened (kept ++ pieces_of_base link b) (last_of_base b) sign n rest (base_may_raise b) h.1 f
     ∙ regrouped g opened kept (pieces_of_base link b) (pieces.RaisedByName sign (name_of n) ∷ mark_of n) (behind last.Power) rest
-
-lawful_base : (g : Setting) (opened : ℕ) (f : Factor) → IsLawfulFactor g opened f → IsLawfulBase g opened (base_of f)
-lawful_base g opened (factor b power) h = h.0
-lawful_base g opened (raised b sign n) h = h.0
 
 divisor : (f : Factor) → IsDivisor f → Stands links.Over (base_of f)
 divisor (factor b power) h = h

@@ -4,7 +4,7 @@ use Rattle.form_base.specs.declared.spot.Spot.{Spot}
 use Rattle.form_ast.specs.declared.expr.Sign.{Sign}
 use Rattle.form_ast.specs.declared.expr.Link.{Link}
 use Rattle.form_ast.specs.declared.expr.Link.TheVariants as links
-use Rattle.form_ast.specs.declared.expr.Number.{Number}
+use Rattle.form_number.specs.declared.number.Number.{Number}
 use Rattle.form_ast.specs.declared.expr.Named.TheVariants as names
 use Rattle.form_ast.specs.declared.expr.Spelled.{Spelled}
 use Rattle.form_ast.specs.declared.expr.Power.{Power}
@@ -75,10 +75,6 @@ product_of (by_over l p) f = over p f
 -- the sum up to a factor
 abbrev pub sum_to : Before → Factor → Sum
 sum_to b f = sum_of (lead_of b) (product_of b f)
-
-abbrev pub before_of : Outer → Before
-before_of (in_parenthesis b) = b
-before_of (in_arguments b n args) = b
 
 abbrev pub bracket_of : Outer → Bracket
 bracket_of (in_parenthesis b) = brackets_by.Parenthesis

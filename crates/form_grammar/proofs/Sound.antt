@@ -7,7 +7,7 @@ use Rattle.form_base.specs.declared.spot.Spot.{Spot}
 use Rattle.form_ast.specs.declared.expr.Sign.{Sign}
 use Rattle.form_ast.specs.declared.expr.Sign.TheVariants as signs
 use Rattle.form_ast.specs.declared.expr.Link.TheVariants as links
-use Rattle.form_ast.specs.declared.expr.Number.{Number}
+use Rattle.form_number.specs.declared.number.Number.{Number}
 use Rattle.form_ast.specs.declared.expr.SignedNumber.{SignedNumber}
 use Rattle.form_ast.specs.declared.expr.Spelled.{Spelled}
 use Rattle.form_ast.specs.declared.expr.Named.{Named}
@@ -561,10 +561,6 @@ raise_at_operator g around b (factor base (Some p)) next h e = absurd cc
 raise_at_operator g around b (raised base sign n) next h e = absurd cc
 
 -- ---- a name with what follows it
-
--- the piece of a name, and its mark
-abbrev named_pieces : Before → Label → List Piece
-named_pieces b n = pieces.Name (link_before b) (name_of n) ∷ mark_of n
 
 abbrev is_marked : Label → Bool
 is_marked (named n) = false

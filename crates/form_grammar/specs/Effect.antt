@@ -3,7 +3,7 @@ use Rattle.std.specs.Prelude.{Bool, true, false, ◌==◌, ◌&&◌, if◌then�
 use Rattle.form_ast.specs.declared.expr.Sign as signs
 use Rattle.form_ast.specs.declared.expr.Sign.TheVariants.{Minus}
 use Rattle.form_ast.specs.declared.expr.Power as powers
-use Rattle.form_ast.specs.declared.expr.Number as numbers
+use Rattle.form_number.specs.declared.number.Number as numbers
 use Rattle.form_ast.specs.declared.expr.Spelled.{Spelled}
 use Rattle.form_ast.specs.declared.expr.Link as links
 use Rattle.form_ast.specs.declared.expr.Link.TheVariants as by_link

@@ -1,5 +1,4 @@
 pub mod Effect
-pub mod Exact
 pub mod Grammar
 pub mod Parts
 pub mod Reading

@@ -1,18 +1,12 @@
 //! What remains of a product once equal factors are joined.
-ghost use Rattle.std.specs.Prelude.{◌≡◌, ◌+◌, ◌<◌, ◌≤◌, ◌==◌, sum_by, count_by};
+ghost use Rattle.std.specs.Prelude.{◌≡◌, sum_by, count_by, IfOk, MatchOption};
 ghost use Rattle.std.specs.List.{list_any, list_all};
 ghost use Rattle.form_ast.specs.Patterns.{is_same_name as is_same_name_of, is_same_key as is_same_key_of, size_at as size_at_of, is_cancelled as is_cancelled_of, stays as stays_in, has_name as has_name_of, stands_alone as stands_alone_in, are_balanced as are_balanced_of};
-ghost use Rattle.form_grammar.specs.Exact.{value};
 
 use form_ast::{Key, Weight};
 use form_base::Name;
-
-/// A sum of sizes: so many times 2^128, and the rest.
-#[derive(Clone, Copy)]
-pub struct Exact {
-    carries: usize,
-    low: u128,
-}
+use form_number::{Numeral, Total};
+use std::alloc::{AllocError, Global};
 
 fn is_same_name(name: &Name, is_marked: bool, other: &Name, is_other_marked: bool) -> bool
     ensures { result ≡ is_same_name_of name.now is_marked other.now is_other_marked }
@@ -33,70 +27,47 @@ fn is_same_key(key: &Key, other: &Key) -> bool
     }
 }
 
-/// The size of a power with this key, below zero or not.
-fn size_at(key: &Key, below: bool, weight: &Weight) -> u128
-    ensures { result ≡ size_at_of key.now below weight.now }
+/// The size of a power with this key, below zero or not, where it is one.
+fn size_at<'a>(key: &Key, below: bool, weight: &'a Weight) -> Option<&'a Numeral>
+    ensures { MatchOption result (size_at_of key.now below weight.now ≡ 0) (λ size. size.now ≡ size_at_of key.now below weight.now) }
 {
     match weight {
         Weight::Keyed(other, is_below, size) if is_same_key(key, other) && below == *is_below =>
-            *size,
-        _ => 0,
+            Some(size),
+        _ => None,
     }
-}
-
-/// A sum with a further size.
-fn plus(sum: Exact, size: u128) -> Exact
-    requires room { sum.carries < 18446744073709551615 }
-    ensures value { value result ≡ value sum + size }
-    ensures carries { result.carries ≤ sum.carries + 1 }
-{
-    let spare = u128::MAX - size;
-    if sum.low <= spare {
-        Exact {
-            carries: sum.carries,
-            low: sum.low + size,
-        }
-    } else {
-        Exact {
-            carries: sum.carries + 1,
-            low: sum.low - spare - 1,
-        }
-    }
-}
-
-/// Whether two sums are equal.
-fn is_equal(sum: Exact, other: Exact) -> bool
-    ensures { result ≡ (value sum == value other) }
-{
-    sum.carries == other.carries && sum.low == other.low
 }
 
 /// The sum of these sizes.
-fn total(weights: &[Weight], key: &Key, below: bool) -> Exact
-    ensures { value result ≡ sum_by (size_at_of key.now below) weights.now }
+fn total(alloc: Global, weights: &[Weight], key: &Key, below: bool) -> Result<Total, AllocError>
+    ensures { IfOk result (λ sum. sum ≡ sum_by (size_at_of key.now below) weights.now) }
 {
-    let mut sum = Exact { carries: 0, low: 0 };
+    let mut sum = Total::zero(alloc);
     for weight in weights {
-        sum = plus(sum, size_at(key, below, weight));
+        if let Some(size) = size_at(key, below, weight) {
+            sum = sum.plus(alloc, size)?;
+        }
     }
-    sum
+    Ok(sum)
 }
 
 /// Whether the powers above zero and those below it cancel.
-fn is_cancelled(weights: &[Weight], key: &Key) -> bool
-    ensures { result ≡ is_cancelled_of weights.now key.now }
+fn is_cancelled(alloc: Global, weights: &[Weight], key: &Key) -> Result<bool, AllocError>
+    ensures { IfOk result (λ cancelled. cancelled ≡ is_cancelled_of weights.now key.now) }
 {
-    is_equal(total(weights, key, false), total(weights, key, true))
+    let above = total(alloc, weights, key, false)?;
+    let beneath = total(alloc, weights, key, true)?;
+    Ok(above.is_equal(&beneath))
 }
 
 /// Whether a factor that weighs this remains.
-fn stays(weights: &[Weight], weight: &Weight) -> bool
-    ensures { result ≡ stays_in weights.now weight.now }
+fn stays(alloc: Global, weights: &[Weight], weight: &Weight) -> Result<bool, AllocError>
+    ensures { IfOk result (λ remains. remains ≡ stays_in weights.now weight.now) }
 {
     match weight {
-        Weight::Keyed(key, _, _) => !is_cancelled(weights, key),
-        Weight::Lone(size) => *size != 0,
-        Weight::Free(_) => true,
+        Weight::Keyed(key, _, _) => Ok(!is_cancelled(alloc, weights, key)?),
+        Weight::Lone(size) => Ok(!size.is_zero()),
+        Weight::Free(_) => Ok(true),
     }
 }
 
@@ -135,10 +106,15 @@ fn stands_alone(weights: &[Weight], weight: &Weight) -> bool
 }
 
 /// Whether a factor remains.
-fn any_stays(weights: &[Weight]) -> bool
-    ensures { result ≡ list_any (stays_in weights.now) weights.now }
+fn any_stays(alloc: Global, weights: &[Weight]) -> Result<bool, AllocError>
+    ensures { IfOk result (λ any. any ≡ list_any (stays_in weights.now) weights.now) }
 {
-    weights.iter().any(|weight| stays(weights, weight))
+    for weight in weights {
+        if stays(alloc, weights, weight)? {
+            return Ok(true);
+        }
+    }
+    Ok(false)
 }
 
 /// Whether powers of wildcards stand on names that are the base of no other factor.
@@ -149,8 +125,8 @@ fn all_stand_alone(weights: &[Weight]) -> bool
 }
 
 /// Both.
-pub fn are_balanced(weights: &[Weight]) -> bool
-    ensures { result ≡ are_balanced_of weights.now }
+pub fn are_balanced(alloc: Global, weights: &[Weight]) -> Result<bool, AllocError>
+    ensures { IfOk result (λ balanced. balanced ≡ are_balanced_of weights.now) }
 {
-    any_stays(weights) && all_stand_alone(weights)
+    Ok(any_stays(alloc, weights)? && all_stand_alone(weights))
 }

@@ -3,9 +3,8 @@ ghost use Rattle.form_ast.specs.Syntax.{link_of};
 ghost use Rattle.form_grammar.specs.Effect.{factor_effect as factor_effect_of, field_effect as field_effect_of, further_effect as further_effect_of, argument_effect as argument_effect_of, exponent_effect as exponent_effect_of, name_as_power as name_as_power_of, mark_effect as mark_effect_of, last_mark_effect as last_mark_effect_of, dot_effect as dot_effect_of, call_effect as call_effect_of, operator_effect as operator_effect_of, vector_effect as vector_effect_of, behind_entry as behind_entry_of, entry_effect as entry_effect_of, entry_comma_effect as entry_comma_effect_of, delta_closing_effect as delta_closing_effect_of, behind_wildcard as behind_wildcard_of, follower_effect as follower_effect_of, restriction_effect as restriction_effect_of, number_effect as number_effect_of, element_effect as element_effect_of, element_number_effect as element_number_effect_of, element_end_effect as element_end_effect_of, field_name_effect as field_name_effect_of, field_end_effect as field_end_effect_of, lone_effect as lone_effect_of, inner_effect as inner_effect_of, behind_number as behind_number_of, power_effect as power_effect_of, is_negative as is_negative_power, effect_of as effect, may_end as may_end_at};
 
 use crate::terminal::Terminal;
-use form_ast::{
-    Link, Named, Number, Piece, Power, Restriction, Setting, Sign, SignedNumber, Spelled,
-};
+use form_ast::{Link, Named, Piece, Power, Restriction, Setting, Sign, SignedNumber, Spelled};
+use form_number::Number;
 
 /// What stands last behind a factor.
 #[derive(Clone, Copy)]
@@ -196,7 +195,7 @@ fn argument_effect(setting: Setting, terminal: Terminal) -> Effect
 fn is_negative(power: &Power) -> bool
     ensures { result ≡ is_negative_power power.now }
 {
-    matches!(power.sign, Some(Sign::Minus)) && power.number.value != 0
+    matches!(power.sign, Some(Sign::Minus)) && !power.number.is_zero()
 }
 
 /// What may come behind the number of a power.
@@ -217,9 +216,14 @@ fn power_effect(is_on_enclosed: bool, power: Power) -> Effect
     if is_on_enclosed && is_negative(&power) {
         return Effect::Fails;
     }
+    let Power {
+        is_parenthesized,
+        sign,
+        number,
+    } = power;
     Effect::Adds(
-        Piece::Raised(power.is_parenthesized, power.sign, power.number),
-        behind_number(power.is_parenthesized),
+        Piece::Raised(is_parenthesized, sign, number),
+        behind_number(is_parenthesized),
     )
 }
 

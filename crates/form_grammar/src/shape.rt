@@ -8,6 +8,7 @@ use crate::known::text_of;
 use crate::weights::{WeightChange, Weights};
 use form_ast::{Key, Link, Named, Piece, Sign, Weight};
 use form_base::Name;
+use form_number::Numeral;
 use std::alloc::{AllocError, Global};
 use std::marker::Model;
 
@@ -155,52 +156,53 @@ fn with_wildcard(level: Level) -> Level
 }
 
 /// Whether its factors are those of a pattern.
-fn are_factors(weights: &Option<Weights>) -> bool
-    ensures { result ≡ are_factors_of weights.now }
+fn are_factors(alloc: Global, weights: &Option<Weights>) -> Result<bool, AllocError>
+    ensures { IfOk result (λ b. b ≡ are_factors_of weights.now) }
 {
     match weights {
-        Some(weights) => are_balanced(weights.as_slice()),
-        None => false,
+        Some(weights) => are_balanced(alloc, weights.as_slice()),
+        None => Ok(false),
     }
 }
 
 /// Whether an argument is a pattern, or has no wildcard.
-fn is_argument(level: &Level) -> bool
-    ensures { result ≡ is_argument_level level.now }
+fn is_argument(alloc: Global, level: &Level) -> Result<bool, AllocError>
+    ensures { IfOk result (λ b. b ≡ is_argument_level level.now) }
 {
     if level.has_wildcard {
-        are_factors(&level.weights)
+        are_factors(alloc, &level.weights)
     } else {
-        true
+        Ok(true)
     }
 }
 
 /// What is around a level, where this ends.
-fn absorbed(inner: Level, outer: Level) -> Level
-    ensures { result ≡ absorbed_by inner outer }
+fn absorbed(alloc: Global, inner: Level, outer: Level) -> Result<Level, AllocError>
+    ensures { IfOk result (λ l. l ≡ absorbed_by inner outer) }
 {
+    let is_argument = is_argument(alloc, &inner)?;
     let Level {
         has_begun,
         has_wildcard,
         weights,
     } = outer;
-    Level {
+    Ok(Level {
         has_begun,
         has_wildcard: has_wildcard || inner.has_wildcard,
-        weights: if is_argument(&inner) { weights } else { None },
-    }
+        weights: if is_argument { weights } else { None },
+    })
 }
 
-fn closed(shape: Shape) -> Shape
-    ensures { result ≡ closed_level shape.around shape.inner }
+fn closed(alloc: Global, shape: Shape) -> Result<Shape, AllocError>
+    ensures { IfOk result (λ s. s ≡ closed_level shape.around shape.inner) }
 {
     let Shape { mut around, inner } = shape;
     match around.pop() {
-        Some(outer) => Shape {
+        Some(outer) => Ok(Shape {
             around,
-            inner: absorbed(inner, outer),
-        },
-        None => Shape { around, inner },
+            inner: absorbed(alloc, inner, outer)?,
+        }),
+        None => Ok(Shape { around, inner }),
     }
 }
 
@@ -211,7 +213,7 @@ fn parted(alloc: Global, shape: Shape) -> Result<Shape, AllocError>
     let Some(outer) = around.pop() else {
         return Ok(Shape { around, inner });
     };
-    around.push(absorbed(inner, outer))?;
+    around.push(absorbed(alloc, inner, outer)?)?;
     Ok(Shape {
         around,
         inner: new_level(alloc),
@@ -291,7 +293,7 @@ fn name_weight(alloc: Global, name: &Named) -> Result<Option<Weight>, AllocError
     ensures { IfOk result (λ w. w ≡ name_weight_of (text_of_name name.now)) }
 {
     let name = name_of(alloc, name)?;
-    Ok(Some(Weight::Keyed(Key::Alone(name, false), false, 1)))
+    Ok(Some(Weight::Keyed(Key::Alone(name, false), false, Numeral::small(1))))
 }
 
 fn is_minus(sign: Option<Sign>) -> bool
@@ -311,14 +313,20 @@ fn step(alloc: Global, shape: Shape, piece: &Piece) -> Result<Shape, AllocError>
         Piece::EndOfDot(name) => {
             inner_changed(WeightChange::Second(name_of(alloc, name)?), shape)
         }
-        Piece::Delta(link, _) => factor_added(*link, Some(Weight::Lone(1)), shape),
+        Piece::Delta(link, _) => factor_added(*link, Some(Weight::Lone(Numeral::small(1))), shape),
         Piece::EntryName(_) | Piece::EntryNumber(_) | Piece::EndOfDelta => Ok(shape),
-        Piece::Call(link, _) => level_opened(alloc, *link, Some(Weight::Lone(1)), shape),
+        Piece::Call(link, _) => level_opened(
+            alloc,
+            *link,
+            Some(Weight::Lone(Numeral::small(1))),
+            shape,
+        ),
         Piece::Comma => parted(alloc, shape),
-        Piece::EndOfCall | Piece::Close => Ok(closed(shape)),
+        Piece::EndOfCall | Piece::Close => closed(alloc, shape),
         Piece::Open(link) => level_opened(alloc, *link, None, shape),
         Piece::Raised(_, sign, number) => {
-            inner_changed(WeightChange::Size(is_minus(*sign), number.value), shape)
+            let size = number.numeral(alloc)?;
+            inner_changed(WeightChange::Size(is_minus(*sign), size), shape)
         }
         Piece::RaisedByName(_, _) => inner_changed(WeightChange::Free, shape),
         Piece::Marked(_) => marked(shape),
@@ -338,5 +346,5 @@ pub fn judge(alloc: Global, pieces: &[Piece]) -> Result<bool, AllocError>
     for piece in pieces {
         shape = step(alloc, shape, piece)?;
     }
-    Ok(are_factors(&shape.inner.weights))
+    are_factors(alloc, &shape.inner.weights)
 }

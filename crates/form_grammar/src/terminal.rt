@@ -1,9 +1,10 @@
 ghost use Rattle.std.specs.Prelude.{◌≡◌};
 ghost use Rattle.form_grammar.specs.Terminal.{mark_terminal as mark_terminal_of};
 
-use form_ast::{Number, Sign, Spelled};
+use form_ast::{Sign, Spelled};
 use form_base::Spot;
 use form_lexer::{BuiltIn, Mark, Token, TokenKind};
+use form_number::Number;
 
 /// A token as the grammar sees it, without the spots of marks. `i_` and `d_` stand in right sides alone.
 #[derive(Debug, Drop)]
@@ -65,7 +66,7 @@ impl From<Token> for Terminal {
     fn from(token: Token) -> Terminal {
         let Token { kind, spot } = token;
         match kind {
-            TokenKind::Number(value) => Terminal::Number(Number { value, spot }),
+            TokenKind::Number(numeral) => Terminal::Number(Number::new(numeral, spot)),
             TokenKind::Name(name) => Terminal::Name(Spelled { name, spot }),
             TokenKind::Mark(mark) => mark_terminal(mark),
             TokenKind::BuiltIn(BuiltIn::Imaginary) => Terminal::Imaginary(spot),

@@ -7,14 +7,16 @@ use Rattle.std.specs.List.{AllPass}
 use Rattle.std.specs.Char.{is_ascii_digit, is_ascii_alphanumeric}
 use Rattle.std.proofs.lemmas.List.Elements.{All-head, All-cons, All-weaker}
 use Rattle.std.proofs.lemmas.Bool.{eq-eqb, ne_eqb}
+use Rattle.form_number.specs.Numbers.{capped_value, number_of, value_of}
 use Rattle.form_lexer.specs.declared.mark.Mark as marks
 use Rattle.form_lexer.specs.declared.shape.Shape.{Shape}
 use Rattle.form_lexer.specs.declared.shape.Shape.TheVariants as shapes
 use Rattle.form_lexer.specs.declared.token.TokenKind.{TokenKind}
 use Rattle.form_lexer.specs.declared.token.TokenKind.TheVariants as kinds
-use Rattle.form_lexer.specs.Tokens.{IsWord, IsBracketed, IsWritten, HasNoClosing, kept_value, mark_text, built_in_text}
+use Rattle.form_lexer.specs.Tokens.{IsWord, IsBracketed, IsWritten, HasNoClosing, mark_text, built_in_text}
 use Rattle.form_lexer.specs.Reading.{kind_of, front, token_at, number_at, word_at, bracket_at, mark_at, underscored, word_of, closed_at, single_mark}
 use Rattle.form_lexer.proofs.Classes.{at_digit, at_letter, at_opening, at_other, letter_is_alphanumeric}
+use Rattle.form_lexer.proofs.Values.{digits_number}
 use Rattle.form_lexer.proofs.Fronts.{front_all, front_ends, position_at, position_none}
 use Rattle.form_lexer.proofs.Marks.{mark_again, built_in_again, single_is, stray_word}
 
@@ -26,13 +28,13 @@ pub record IsRead (text : List ℕ) (kind : TokenKind) : Type 0 where
 read_as : (text : List ℕ) (kind : TokenKind) (read : Shape × ℕ) → token_at text ≡ read → read.1 ≡ length text → kind ≡ kind_of read.0 text → IsRead text kind
 read_as text kind read e whole is = record { whole = ap (λ (r : Shape × ℕ). r.1) e ∙ whole; is = is ∙ ap (λ (r : Shape × ℕ). kind_of r.0 text) (sym e) }
 
-number_read : (c : ℕ) (cs : List ℕ) → AllPass is_ascii_digit (c ∷ cs) → IsRead (c ∷ cs) (kinds.Number (kept_value (c ∷ cs)))
+number_read : (c : ℕ) (cs : List ℕ) → AllPass is_ascii_digit (c ∷ cs) → IsRead (c ∷ cs) (kinds.Number (value_of (c ∷ cs)))
 unfolding number_at
 number_read c cs digits =
     let all = front_all is_ascii_digit (c ∷ cs) digits in
     let text : take (front is_ascii_digit (c ∷ cs)) (c ∷ cs) ≡ c ∷ cs = ap (λ n. take n (c ∷ cs)) all ∙ take-length (c ∷ cs) in
-    read_as (c ∷ cs) (kinds.Number (kept_value (c ∷ cs))) (number_at (c ∷ cs)) (at_digit c cs (All-head (λ d. is_ascii_digit d ≡ true) c cs digits)) all
-    (ap (λ (t : List ℕ). kinds.Number (kept_value t)) (sym text))
+    read_as (c ∷ cs) (kinds.Number (value_of (c ∷ cs))) (number_at (c ∷ cs)) (at_digit c cs (All-head (λ d. is_ascii_digit d ≡ true) c cs digits)) all
+    (ap kinds.Number (sym (digits_number (c ∷ cs)) ∙ ap (λ (t : List ℕ). number_of (capped_value (value_of t)) (c ∷ cs)) (sym text)))
 
 pub word_of_is : (text : List ℕ) (l u : ℕ) → front is_ascii_alphanumeric text ≡ l → front (λ c. eqb c 95) (drop l text) ≡ u → word_at text ≡ word_of l u text
 unfolding word_at

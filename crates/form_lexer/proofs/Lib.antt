@@ -1,3 +1,4 @@
+pub mod Values
 pub mod Fronts
 pub mod Marks
 pub mod Classes

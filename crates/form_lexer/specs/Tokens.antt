@@ -1,8 +1,9 @@
 -- The tokens of a line: how each kind is written, and which tokens a line has.
-use Rattle.std.specs.Prelude.{◌≡◌, ◌≢◌, ◌⊎◌, ℕ, ◌+◌, ◌-◌, ◌*◌, ◌^◌, min, Bool, false, ◌==◌, ◌||◌, IsTrue, List, [], ◌∷◌, ◌++◌, fold, codes, All}
+use Rattle.std.specs.Prelude.{◌≡◌, ◌≢◌, ◌⊎◌, ℕ, Bool, false, ◌==◌, ◌||◌, IsTrue, List, [], ◌∷◌, ◌++◌, codes, All}
 use Rattle.std.specs.List.{AllPass}
 use Rattle.std.specs.Char.{is_ascii_digit, is_ascii_alphabetic, is_ascii_alphanumeric}
 use Rattle.form_base.specs.declared.spot.Spot.{Spot}
+use Rattle.form_number.specs.Numbers.{value_of}
 use Rattle.form_lexer.specs.declared.mark.Mark as marks
 use Rattle.form_lexer.specs.declared.mark.Mark.TheVariants.{And, Or, EqualTo, NotEqualTo, AtMost, AtLeast, Minus, Plus, Times, Over, Power, Open, Close, OpenBrace, CloseBrace, Comma, Semicolon, Colon, Equals, Period, Question, Less, Greater}
 use Rattle.form_lexer.specs.declared.mark.BuiltIn as built_ins
@@ -45,14 +46,6 @@ built_in_text Gamma = codes "g_"
 abbrev pub is_blank : ℕ → Bool
 is_blank c = (c == 32) || (c == 9)
 
--- the value of digits, the highest first
-abbrev pub value_of : List ℕ → ℕ
-value_of digits = fold (λ value digit. value * 10 + (digit - 48)) 0 digits
-
--- the value as a token keeps it: at most 2^127
-abbrev pub kept_value : List ℕ → ℕ
-kept_value digits = min (value_of digits) (2 ^ 127)
-
 -- a letter, then letters and digits
 abbrev pub IsWord : List ℕ → Type 0
 IsWord [] = ⊥
@@ -93,7 +86,7 @@ pub record IsOther (text : List ℕ) : Type 0 where
 
 -- how a token of this kind is written
 abbrev pub IsWritten : TokenKind → List ℕ → Type 0
-IsWritten (Number value) text = AllPass is_ascii_digit text × (text ≢ []) × (value ≡ kept_value text)
+IsWritten (Number value) text = AllPass is_ascii_digit text × (text ≢ []) × (value ≡ value_of text)
 IsWritten (Name name) text = (name ≡ text) × (IsWord text ⊎ IsBracketed text)
 IsWritten (BuiltIn built_in) text = text ≡ built_in_text built_in
 IsWritten (Mark mark) text = text ≡ mark_text mark

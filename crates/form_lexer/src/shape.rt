@@ -1,25 +1,23 @@
 //! The front of a text read as one token, as far as that needs no memory.
 
-ghost use Rattle.std.specs.Prelude.{◌≡◌, ◌≤◌, ◌==◌, ℕ, List, ◌∷◌, position, IfSome};
+ghost use Rattle.std.specs.Prelude.{◌≡◌, ◌==◌, ℕ, List, ◌∷◌, position, IfSome};
 ghost use Rattle.std.specs.Char.{is_ascii_digit, is_ascii_alphanumeric};
-ghost use Rattle.std.specs.List.{AllPass};
-ghost use Rattle.form_lexer.specs.Tokens.{is_blank, kept_value, value_of};
+ghost use Rattle.form_lexer.specs.Tokens.{is_blank};
 ghost use Rattle.form_lexer.specs.Reading.{front, double_mark as double_mark_of, single_mark as single_mark_of, underscored as underscored_of, number_at, word_at, bracket_at, mark_at, token_at as token_at_front};
 
 use crate::{BuiltIn, Mark};
+use form_number::capped_value;
 
 /// What a token is, before its name is kept.
 #[derive(Clone, Copy, Debug, PartialEq, Eq)]
 pub enum Shape {
+    /// Digits: their value, or 2^127 where it is past the limits.
     Number(u128),
     Name,
     BuiltIn(BuiltIn),
     Mark(Mark),
     Stray,
 }
-
-/// What a number past every limit is kept as: 2^127.
-const PAST_LIMITS: u128 = 1 << 127;
 
 /// How many blanks the text begins with.
 pub(crate) fn blanks(text: &[u8]) -> usize
@@ -58,46 +56,6 @@ fn closing(text: &[u8]) -> Option<usize>
     ensures { result ≡ position (λ c. c == 93) text.now }
 {
     text.iter().position(|byte| *byte == b']')
-}
-
-/// The value of digits, as far as it is kept.
-fn value(digits: &[u8]) -> u128
-    requires { AllPass is_ascii_digit digits.now }
-    ensures { result ≡ kept_value digits.now }
-{
-    match small_value(digits) {
-        Some(value) => u128::from(value),
-        None => large_value(digits),
-    }
-}
-
-/// The value of digits, where it fits 64 bits, as it mostly does.
-fn small_value(digits: &[u8]) -> Option<u64>
-    requires { AllPass is_ascii_digit digits.now }
-    ensures { IfSome result (λ value. value ≡ value_of digits.now) }
-{
-    let mut value: u64 = 0;
-    for digit in digits {
-        value = value
-            .checked_mul(10)?
-            .checked_add(u64::from(*digit - b'0'))?;
-    }
-    Some(value)
-}
-
-/// The same of any digits.
-fn large_value(digits: &[u8]) -> u128
-    requires { AllPass is_ascii_digit digits.now }
-    ensures { result ≡ kept_value digits.now }
-{
-    let mut value: u128 = 0;
-    for digit in digits {
-        value = value
-            .saturating_mul(10)
-            .saturating_add(u128::from(*digit - b'0'))
-            .min(PAST_LIMITS);
-    }
-    value
 }
 
 /// The mark of two characters.
@@ -162,7 +120,7 @@ fn number(text: &[u8]) -> (Shape, usize)
     ensures { result ≡ number_at text.now }
 {
     let length = digits(text);
-    (Shape::Number(value(&text[..length])), length)
+    (Shape::Number(capped_value(&text[..length])), length)
 }
 
 /// A text that begins with a letter.

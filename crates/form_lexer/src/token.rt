@@ -1,11 +1,12 @@
 use crate::{BuiltIn, Mark};
 use form_base::{Name, Spot};
+use form_number::Numeral;
 
 /// What a token is.
-#[derive(Debug, Drop, PartialEq, Eq)]
+#[derive(Debug, Drop)]
 pub enum TokenKind {
-    /// Digits, as their value. One above 2^127-1, which is past every limit, is kept as 2^127.
-    Number(u128),
+    /// Digits, as their value.
+    Number(Numeral),
     /// A letter, then letters and digits; or any text in `[` and `]`, with these.
     Name(Name),
     BuiltIn(BuiltIn),
@@ -16,7 +17,7 @@ pub enum TokenKind {
 }
 
 /// A token and where it stands.
-#[derive(Debug, Drop, PartialEq, Eq)]
+#[derive(Debug, Drop)]
 pub struct Token {
     pub kind: TokenKind,
     pub spot: Spot,

@@ -1,7 +1,7 @@
 -- Reading the elements of a set.
 use Rattle.std.specs.Prelude.{List, [], ◌∷◌, ◌++◌, Option, Some, None, option_and_then, option_to_list}
 use Rattle.form_ast.specs.declared.expr.Sign as signs
-use Rattle.form_ast.specs.declared.expr.Number as numbers
+use Rattle.form_number.specs.declared.number.Number as numbers
 use Rattle.form_ast.specs.declared.expr.SignedNumber.{SignedNumber}
 use Rattle.form_ast.specs.declared.expr.Spelled.{Spelled}
 use Rattle.form_ast.specs.declared.statement.WrittenElements.{WrittenElements}

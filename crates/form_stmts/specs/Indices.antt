@@ -1,5 +1,5 @@
 -- Reading declarations of indices, dimensions and what is switched.
-use Rattle.std.specs.Prelude.{List, [], ◌∷◌, ◌++◌, codes, Option, Some, None, option_and_then, if◌then◌else◌}
+use Rattle.std.specs.Prelude.{Bool, false, List, [], ◌∷◌, ◌++◌, codes, Option, Some, None, option_and_then, if◌then◌else◌}
 use Rattle.form_ast.specs.declared.expr.Spelled.{Spelled}
 use Rattle.form_ast.specs.declared.index_list.Dimension as dimensions
 use Rattle.form_ast.specs.declared.index_list.Dimension.TheVariants as dimension
@@ -65,6 +65,10 @@ dimension_from (Some (by_terminal.Number n)) = Some (dimension.Number n)
 dimension_from (Some (by_terminal.Name name)) = Some (dimension.Name name)
 dimension_from _ = None
 
+abbrev pub is_statistics : Terminal → Bool
+is_statistics (by_terminal.Name word) = is_one_of word.name (codes "statistics" ∷ [])
+is_statistics _ = false
+
 abbrev pub switch_from : Option Terminal → Option Statement
-switch_from (Some (by_terminal.Name word)) = if is_one_of word.name (codes "statistics" ∷ []) then Some Statistics else None
-switch_from _ = None
+switch_from (Some terminal) = if is_statistics terminal then Some Statistics else None
+switch_from None = None

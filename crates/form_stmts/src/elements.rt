@@ -5,9 +5,10 @@ ghost use Rattle.form_stmts.specs.Elements.{element_step as element_step_of, ele
 ghost use Rattle.form_stmts.specs.Reading.{terminals};
 ghost use Rattle.form_stmts.specs.Statement.{AreElements};
 
-use form_ast::{NameList, Number, NumberList, Sign, SignedNumber, Spelled, WrittenElements};
+use form_ast::{NameList, NumberList, Sign, SignedNumber, Spelled, WrittenElements};
 use form_grammar::{ReadError, Terminal};
 use form_lexer::Token;
+use form_number::Number;
 use std::alloc::Global;
 use std::vec::IntoIter;
 

@@ -1,7 +1,7 @@
 //! Declarations of indices and of dimensions, and what is switched on and off.
 ghost use Rattle.std.specs.Prelude.{◌≡◌, [], IfErr, IfOk};
 ghost use Rattle.form_grammar.specs.Reading.{Gives, Excludes};
-ghost use Rattle.form_stmts.specs.Indices.{index_step as index_step_of, indices_from, last_index as last_index_of, only, dimension_from, switch_from};
+ghost use Rattle.form_stmts.specs.Indices.{index_step as index_step_of, indices_from, last_index as last_index_of, only, dimension_from, is_statistics as is_statistics_at, switch_from};
 ghost use Rattle.form_stmts.specs.Reading.{terminals};
 ghost use Rattle.form_stmts.specs.Statement.{AreIndices, IsDimension, IsSwitch};
 
@@ -152,13 +152,21 @@ pub fn read_dimension(tokens: IntoIter<Token>) -> Result<Dimension, ReadError>
     dimension(tokens)
 }
 
+/// Whether a terminal is the name `statistics`, in any case of letters.
+fn is_statistics(terminal: &Terminal) -> bool
+    ensures { result ≡ is_statistics_at terminal.now }
+{
+    match terminal {
+        Terminal::Name(word) => word.name.as_str().eq_ignore_ascii_case("statistics"),
+        _ => false,
+    }
+}
+
 fn switched(tokens: IntoIter<Token>) -> Result<Statement, ReadError>
     ensures { Gives (λ s. s) result (switch_from (only (terminals tokens))) }
 {
     match only_terminal(tokens) {
-        Some(Terminal::Name(word)) if word.name.as_str().eq_ignore_ascii_case("statistics") => {
-            Ok(Statement::Statistics)
-        }
+        Some(terminal) if is_statistics(&terminal) => Ok(Statement::Statistics),
         _ => Err(ReadError::BadSyntax),
     }
 }

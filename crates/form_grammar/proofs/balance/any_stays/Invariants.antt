@@ -1,0 +1,7 @@
+use Rattle.std.proofs.Common.{◌≡◌, take, false}
+use Rattle.std.specs.List.{list_any}
+use Rattle.form_ast.specs.Patterns.{stays}
+use Rattle.form_grammar.proofs.balance.any_stays.Given as goal
+
+abbrev pub invariant-loop-weight : goal.invariant-loop-weight
+invariant-loop-weight l = list_any (stays l.weights) (take l.weight-index l.weights) ≡ false
