@@ -1,9 +1,9 @@
 use form_base::Name;
-use form_number::Numeral;
+use form_number::WholeNumber;
 
 /// What is joined with factors of the same key: a name alone, or a dot product of two, in either order. A wildcard is
 /// joined with wildcards alone.
-#[derive(Debug, Drop)]
+#[derive(Debug, Drop, PartialEq, Eq)]
 pub enum Key {
     /// How it is spelled, and whether it is a wildcard.
     Alone(Name, bool),
@@ -15,9 +15,9 @@ pub enum Key {
 #[derive(Debug, Drop)]
 pub enum Weight {
     /// What may be joined, whether its power is below zero, and the size of this.
-    Keyed(Key, bool, Numeral),
+    Keyed(Key, bool, WholeNumber),
     /// Anything else, and the size of its power.
-    Lone(Numeral),
+    Lone(WholeNumber),
     /// A name to the power that a wildcard stands for.
     Free(Name),
 }

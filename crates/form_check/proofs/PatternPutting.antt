@@ -1,10 +1,8 @@
 -- Factors of a pattern that are put as they are read, and as Pattern says it of trees.
 use Rattle.std.proofs.Common.{◌≡◌, ℕ, Bool, true, false, cond, List, [], ◌∷◌, ◌++◌, Option, Some, None, Result, Ok, Err, refl, sym, ap, ◌∙◌}
-use Rattle.std.specs.Prelude.{nat_le}
 use Rattle.form_names.specs.declared.kind.Kind as kinds
 use Rattle.form_names.specs.declared.kind.Kind.TheVariants as kind
 use Rattle.form_names.specs.Names.{Entry}
-use Rattle.form_base.specs.declared.cause.Cause.TheVariants.{NumberRange}
 use Rattle.form_ast.specs.declared.expr.Link.TheVariants as links
 use Rattle.form_number.specs.declared.number.Number.{Number}
 use Rattle.form_ast.specs.declared.expr.Named.TheVariants.{Declared, Imaginary}
@@ -29,7 +27,7 @@ use Rattle.form_check.specs.Pattern.{Raw}
 use Rattle.form_check.specs.PatternWalking as walking
 use Rattle.form_check.specs.PatternWalking.{mark_at, behind_first, behind_mark}
 use Rattle.form_check.specs.Refusal.{Refusal, ◌>>=◌}
-use Rattle.form_check.specs.RightSide.{largest_index, largest_exponent, largest_power, size_within, exponent, is_inverted, spelled_of, wrong, found, vector, named_end, fixed_end, symbol_named}
+use Rattle.form_check.specs.RightSide.{largest_index, largest_exponent, largest_power, value_within, size_within, exponent, is_inverted, spelled_of, wrong, found, vector, named_end, fixed_end, symbol_named}
 
 -- ---- marks
 
@@ -182,14 +180,11 @@ module _ (names : List Entry) where
 
   -- a number that is an end
   number-end-same : (n : Number) (mark : Option Restriction) → ((fixed_end n >>= (λ x. Ok (Some x))) >>= walking.marked_given names mark) ≡ given_as (trees.pattern_end names (syntax.number_entry n))
-  number-end-same n mark = by (nat_le n.value largest_index)
+  number-end-same n mark = by (value_within largest_index n)
     where
-      refusal : Result ends.End Refusal
-      refusal = Err (record { cause = NumberRange; spot = n.spot })
-
-      by : (b : Bool) → ((cond b (Ok (an_end.Fixed n.value)) refusal >>= (λ x. Ok (Some x))) >>= walking.marked_given names mark) ≡ given_as (cond b (Ok (an_end.Fixed n.value)) refusal >>= (λ e. Ok (trees.end_fixed e)))
-      by true = refl
-      by false = refl
+      by : (r : Result ℕ Refusal) → (((r >>= (λ value. Ok (an_end.Fixed value))) >>= (λ x. Ok (Some x))) >>= walking.marked_given names mark) ≡ given_as ((r >>= (λ value. Ok (an_end.Fixed value))) >>= (λ e. Ok (trees.end_fixed e)))
+      by (Ok value) = refl
+      by (Err e) = refl
 
   -- an argument of `d_`
   pub entry-seen : (e : syntax.Entry) (rest : List Piece) → mark_at rest ≡ None → walking.entry_taken names (syntax.pieces_of_entry e ++ rest) ≡ given_as (trees.pattern_end names e)

@@ -27,12 +27,19 @@ use Rattle.form_check.specs.declared.resolved.Head as heads
 use Rattle.form_check.specs.declared.resolved.Head.TheVariants as a_head
 use Rattle.form_check.specs.declared.powers.Power.{Power}
 use Rattle.form_check.specs.Refusal.{Refusal, ◌>>=◌}
-use Rattle.form_check.specs.RightSide.{Known, is_wildcard, field_number, wrong, spelled_of, counted, size_within, exponent, number_exponent, has_minus, is_minus, is_below_zero, is_inverted, size_alone, largest_number, largest_exponent, largest_power, largest_index, number, symbol, found, found_as, found_at, by_kind, name, vector, vector_of, dot, end, named_end, fixed_end, end_of, linked, linked_index, linked_to, delta, head, head_of, alone, only_end, component_end, call_by, empty_call_by, lone, lone_named, lone_at, lone_of, argument, none_stands, symbol_factor, symbol_named, symbol_of, number_base, symbol_base, base_alone, base_by_kind, name_base, dot_base, linked_index_base, linked_base, delta_base, empty_call_base, call_base, sum, product, factor, to_power, base, arguments, one_argument}
+use Rattle.form_check.specs.RightSide.{Known, is_wildcard, field_number, wrong, spelled_of, counted, value_within, size_within, exponent, number_exponent, has_minus, is_minus, is_below_zero, is_inverted, size_alone, largest_number, largest_exponent, largest_power, largest_index, number, symbol, found, found_as, found_at, by_kind, name, vector, vector_of, dot, end, named_end, fixed_end, end_of, linked, linked_index, linked_to, delta, head, head_of, alone, only_end, component_end, call_by, empty_call_by, lone, lone_named, lone_at, lone_of, argument, none_stands, symbol_factor, symbol_named, symbol_of, number_base, symbol_base, base_alone, base_by_kind, name_base, dot_base, linked_index_base, linked_base, delta_base, empty_call_base, call_base, sum, product, factor, to_power, base, arguments, one_argument}
 use Rattle.form_check.specs.Sound.{IsOfKind, IsIndexSound, IsBaseSound, IsPieceSound}
 use Rattle.form_check.proofs.Growing.{bind-Ok, if-Ok, ok_same}
 
 some_same : {A : Type 0} {x y : A} → Some x ≡ Some y → x ≡ y
 some_same is = cc
+
+value-fits : (most : ℕ) (n : Number) (value : ℕ) → value_within most n ≡ Ok value → value ≤ most
+value-fits most n value is =
+    let fits = if-Ok (nat_le n.value most) (Ok n.value) _ _ value is in
+    let same : n.value ≡ value = ok_same fits.1 in
+    let below : n.value ≤ most = leb-true n.value most fits.0 in
+    omega arith
 
 size-fits : (most : ℕ) (power : Option Power) (size : ℕ) → 1 ≤ most → size_within most power ≡ Ok size → size ≤ most
 size-fits most None size one is = let same : 1 ≡ size = ok_same is in omega arith
@@ -91,10 +98,10 @@ module _ (names : List Entry) (stands : ℕ → Bool) where
 
   number-sound : (is_over : Bool) (n : Number) (power : Option Power) (g : tree.Factor) → number is_over n power ≡ Ok g → IsFactorSound g
   number-sound is_over n power g is =
-      let fits = if-Ok (nat_le n.value largest_number) (size_within largest_power power >>= (λ size. Ok (tree.number n.value (number_exponent n.value is_over power size)))) _ _ g is in
-      let sized = bind-Ok (size_within largest_power power) (λ size. Ok (tree.number n.value (number_exponent n.value is_over power size))) g fits.1 in
-      let within : nat_abs (number_exponent n.value is_over power sized.0) ≤ largest_power = rw (size-of-number-exponent n.value is_over power sized.0) (power-fits power sized.0 sized.1) in
-      subst IsFactorSound (ok_same sized.2) (λ link. one (pieces.Number link n.value (number_exponent n.value is_over power sized.0)) (leb-true n.value largest_number fits.0, within))
+      let v = bind-Ok (value_within largest_number n) (λ value. size_within largest_power power >>= (λ size. Ok (tree.number value (number_exponent value is_over power size)))) g is in
+      let sized = bind-Ok (size_within largest_power power) (λ size. Ok (tree.number v.0 (number_exponent v.0 is_over power size))) g v.2 in
+      let within : nat_abs (number_exponent v.0 is_over power sized.0) ≤ largest_power = rw (size-of-number-exponent v.0 is_over power sized.0) (power-fits power sized.0 sized.1) in
+      subst IsFactorSound (ok_same sized.2) (λ link. one (pieces.Number link v.0 (number_exponent v.0 is_over power sized.0)) (value-fits largest_number n v.0 v.1, within))
 
   symbol-factor-sound : (is_wild is_over : Bool) (id : ℕ) (power : Option Power) (size : ℕ) → kind_at names id ≡ Some Symbol → size ≤ largest_exponent → IsFactorSound (symbol_factor is_wild is_over id power size)
   symbol-factor-sound true is_over id power size kind fits =
@@ -192,8 +199,8 @@ module _ (names : List Entry) (stands : ℕ → Bool) where
 
   pub fixed-end-sound : (n : Number) (x : ends.End) → fixed_end n ≡ Ok x → IsEndSound x
   fixed-end-sound n x is =
-      let fits = if-Ok (nat_le n.value largest_index) (Ok (an_end.Fixed n.value)) _ _ x is in
-      subst IsEndSound (ok_same fits.1) (leb-true n.value largest_index fits.0)
+      let v = bind-Ok (value_within largest_index n) (λ value. Ok (an_end.Fixed value)) x is in
+      subst IsEndSound (ok_same v.2) (value-fits largest_index n v.0 v.1)
 
   pub named-end-sound : (n : Named) (x : ends.End) → named_end names n ≡ Ok x → IsEndSound x
   named-end-sound (Imaginary spot) x is = cc
@@ -342,8 +349,8 @@ module _ (names : List Entry) (stands : ℕ → Bool) where
 
   number-base-sound : (n : Number) (b : tree.Base) → number_base n ≡ Ok b → IsRaisedSound b
   number-base-sound n b is =
-      let fits = if-Ok (nat_le n.value largest_number) (Ok (tree.number_base n.value)) _ _ b is in
-      subst IsRaisedSound (ok_same fits.1) (one-piece (by_base.Number n.value) (leb-true n.value largest_number fits.0))
+      let v = bind-Ok (value_within largest_number n) (λ value. Ok (tree.number_base value)) b is in
+      subst IsRaisedSound (ok_same v.2) (one-piece (by_base.Number v.0) (value-fits largest_number n v.0 v.1))
 
   symbol-base-sound : (is_wild : Bool) (id : ℕ) → kind_at names id ≡ Some Symbol → IsRaisedSound (symbol_base is_wild id)
   symbol-base-sound true id kind = one-piece (by_base.Wild id) kind

@@ -25,7 +25,7 @@ use Rattle.form_check.specs.declared.checked.Selection.{Selection}
 use Rattle.form_check.specs.declared.checked.Selection.TheVariants as selections
 use Rattle.form_check.specs.Program.{Program}
 use Rattle.form_check.specs.Refusal.{Refusal, refused, ◌>>=◌, each, listed}
-use Rattle.form_check.specs.RightSide.{found, wrong_kind, right_side, nothing_known, none_stands}
+use Rattle.form_check.specs.RightSide.{value_within, found, wrong_kind, right_side, nothing_known, none_stands}
 use Rattle.form_check.specs.Pattern.{pattern_checked, known_of}
 use Rattle.form_check.specs.Sets.{elements}
 use Rattle.form_check.specs.Standing.{defines, stands}
@@ -68,7 +68,7 @@ symbol_of s id _ = wrong_kind s
 
 -- a written dimension: a number up to the largest, or a symbol
 abbrev pub dimension : List Entry → written_dimension.Dimension → Result Dimension Refusal
-dimension names (by_dimension.Number n) = if nat_le n.value largest_dimension then Ok (dimensions.Number n.value) else refused NumberRange n.spot
+dimension names (by_dimension.Number n) = value_within largest_dimension n >>= (λ value. Ok (dimensions.Number value))
 dimension names (by_dimension.Name s) = found names s >>= (λ f. symbol_of s f.id f.kind)
 
 -- the dimension of an index that is declared: the one that is written, or the one that holds from here on

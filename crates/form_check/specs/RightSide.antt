@@ -54,6 +54,10 @@ abbrev pub counted : Option written_powers.Power → Option Power
 counted None = None
 counted (Some power) = Some (record { sign = power.sign; number = capped power.number })
 
+-- the value of a number, which has a limit
+abbrev pub value_within : ℕ → Number → Result ℕ Refusal
+value_within most n = if nat_le n.value most then Ok n.value else refused NumberRange n.spot
+
 -- the size of a power, which has a limit; 1 where none is written
 abbrev pub size_within : ℕ → Option Power → Result ℕ Refusal
 size_within most None = Ok 1
@@ -93,7 +97,7 @@ is_inverted is_over power = is_over || (has_minus power && not (is_zero power))
 -- a number, up to the largest
 abbrev pub number : Bool → Number → Option Power → Result tree.Factor Refusal
 number is_over n power =
-    if nat_le n.value largest_number then size_within largest_power power >>= (λ size. Ok (tree.number n.value (number_exponent n.value is_over power size))) else refused NumberRange n.spot
+    value_within largest_number n >>= (λ value. size_within largest_power power >>= (λ size. Ok (tree.number value (number_exponent value is_over power size))))
 
 -- ---- names
 
@@ -190,7 +194,7 @@ named_end names (Imaginary spot) = wrong_kind (spelled_of (Imaginary spot))
 named_end names (Declared s) = found names s >>= (λ f. end_of s f.id f.kind)
 
 abbrev pub fixed_end : Number → Result ends.End Refusal
-fixed_end n = if nat_le n.value largest_index then Ok (an_end.Fixed n.value) else refused NumberRange n.spot
+fixed_end n = value_within largest_index n >>= (λ value. Ok (an_end.Fixed value))
 
 -- what stands in `d_` or in the parentheses of a vector: an index, a fixed index or a vector
 abbrev pub end : List Entry → syntax.Entry → Result ends.End Refusal
@@ -327,7 +331,7 @@ symbol_named names (Imaginary spot) = wrong_kind (spelled_of (Imaginary spot))
 symbol_named names (Declared s) = found names s >>= (λ f. symbol_of s f.id f.kind)
 
 abbrev pub number_base : Number → Result tree.Base Refusal
-number_base n = if nat_le n.value largest_number then Ok (tree.number_base n.value) else refused NumberRange n.spot
+number_base n = value_within largest_number n >>= (λ value. Ok (tree.number_base value))
 
 abbrev pub symbol_base : Bool → ℕ → tree.Base
 symbol_base is_wild id = if is_wild then tree.wild_base id else tree.symbol_base id

@@ -1,6 +1,5 @@
 -- Sets: the elements of one that is declared or written in braces, and what a wildcard is restricted to.
-use Rattle.std.specs.Prelude.{ℕ, ℤ, pos, neg_ℤ, nat_le, if◌then◌else◌, List, [], ◌∷◌, ◌++◌, option_to_list, Result, Ok}
-use Rattle.form_base.specs.declared.cause.Cause.TheVariants.{NumberRange}
+use Rattle.std.specs.Prelude.{ℕ, ℤ, pos, neg_ℤ, if◌then◌else◌, List, [], ◌∷◌, ◌++◌, option_to_list, Result, Ok}
 use Rattle.form_names.specs.declared.elements.Elements.{Elements}
 use Rattle.form_names.specs.declared.elements.Elements.TheVariants as elements_of
 use Rattle.form_names.specs.declared.kind.Kind.{Kind}
@@ -13,8 +12,8 @@ use Rattle.form_ast.specs.declared.expr.Restriction.TheVariants as by
 use Rattle.form_ast.specs.declared.statement.WrittenElements.{WrittenElements}
 use Rattle.form_ast.specs.declared.statement.WrittenElements.TheVariants as written
 use Rattle.form_check.specs.declared.resolved.Found.{Found}
-use Rattle.form_check.specs.Refusal.{Refusal, refused, ◌>>=◌, listed}
-use Rattle.form_check.specs.RightSide.{found, wrong_kind, largest_number, is_minus}
+use Rattle.form_check.specs.Refusal.{Refusal, ◌>>=◌, listed}
+use Rattle.form_check.specs.RightSide.{found, wrong_kind, largest_number, value_within, is_minus}
 
 -- ---- elements
 
@@ -35,8 +34,7 @@ name_elements names [] = Ok []
 name_elements names (s ∷ ss) = first_element names s >>= (λ f. listed (further_element names f.kind) ss >>= (λ ids. Ok (f.id ∷ ids)))
 
 abbrev pub number_element : SignedNumber → Result ℤ Refusal
-number_element n =
-    if nat_le n.number.value largest_number then Ok (if is_minus n.sign then neg_ℤ (pos n.number.value) else pos n.number.value) else refused NumberRange n.number.spot
+number_element n = value_within largest_number n.number >>= (λ value. Ok (if is_minus n.sign then neg_ℤ (pos value) else pos value))
 
 abbrev pub names_checked : List Entry → List Spelled → Result Elements Refusal
 names_checked names ss = name_elements names ss >>= (λ ids. Ok (elements_of.Names ids))

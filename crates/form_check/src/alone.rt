@@ -13,14 +13,14 @@ use crate::kinds::{found, wrong_name};
 use crate::known::Known;
 use crate::powers::{
     LARGEST_EXPONENT, LARGEST_NUMBER, LARGEST_POWER, Power, exponent, is_inverted, is_over,
-    link_of, number_exponent, size_of,
+    link_of, number_exponent, size_of, within,
 };
 use crate::raised::{exponent_of, name_power, number_base, symbol_base, symbol_named};
 use crate::resolved::Found;
 use crate::standing::Standing;
 use crate::walk::{Walk, put};
 use form_ast::{Link, Named, Sign};
-use form_base::{Cause, Id};
+use form_base::Id;
 use form_names::{Kind, Names};
 use form_number::Number;
 use form_tree::{Base, Natural, Piece};
@@ -56,9 +56,7 @@ impl Walk {
         ensures gives { Gives (λ _. walk_of self.new) result (adds (walk_of self.old) link (number_of (walking.is_over link) number.now power)) }
         ensures calls { OnOk result (self.new.calls ≡ self.old.calls) }
     {
-        let Some(value) = number.up_to(LARGEST_NUMBER) else {
-            return Err(CheckError::Refused(Cause::NumberRange, number.spot()));
-        };
+        let value = within(number, LARGEST_NUMBER)?;
         let size = size_of(power, LARGEST_POWER)?;
         self.add(Piece::Number {
             link: link_of(link),

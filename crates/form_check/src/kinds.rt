@@ -9,6 +9,7 @@ ghost use Rattle.form_check.specs.Walking.{alone_piece, entry_piece, alone_end a
 
 use crate::CheckError;
 use crate::naming::copy_of;
+use crate::powers::within;
 use crate::resolved::{End, Found, Head};
 use form_ast::{Link, Named, Piece, Spelled};
 use form_base::{Cause, Id, Name, Spot};
@@ -151,9 +152,7 @@ fn named_end(alloc: Global, names: &Names, named: &Named) -> Result<End, CheckEr
 fn fixed_end(number: &Number) -> Result<End, CheckError>
     ensures { Gives (λ end. end) result (end_fixed number.now) }
 {
-    let Some(value) = number.up_to(u128::from(LARGEST_INDEX)) else {
-        return Err(CheckError::Refused(Cause::NumberRange, number.spot()));
-    };
+    let value = within(number, u128::from(LARGEST_INDEX))?;
     Ok(End::Fixed(value as u32))
 }
 

@@ -8,6 +8,7 @@ ghost use Rattle.form_names.specs.declared.elements.Elements.{Elements};
 ghost use Rattle.form_names.specs.Names.{AreElements, Entry, declare_set as declare_set_of, lookup, IsDimension, IsKind};
 
 use crate::kinds::{found, wrong_kind};
+use crate::powers::within;
 use crate::sets::elements;
 use crate::{CheckError, IdList, Selection};
 use form_ast::{Declared, Spelled, SpelledIndex, WrittenElements};
@@ -96,9 +97,7 @@ pub fn dimension(
 {
     match written {
         form_ast::Dimension::Number(number) => {
-            let Some(value) = number.up_to(u128::from(LARGEST_DIMENSION)) else {
-                return Err(CheckError::Refused(Cause::NumberRange, number.spot()));
-            };
+            let value = within(number, u128::from(LARGEST_DIMENSION))?;
             Ok(Dimension::Number(value as u32))
         }
         form_ast::Dimension::Name(spelled) => {

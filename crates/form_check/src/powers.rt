@@ -1,5 +1,5 @@
 //! Powers and exponents.
-ghost use Rattle.std.specs.Prelude.{◌≡◌, ◌≤◌};
+ghost use Rattle.std.specs.Prelude.{◌≡◌, ◌<◌, ◌≤◌, ◌^◌};
 ghost use Rattle.form_check.specs.Refusal.{Gives};
 ghost use Rattle.form_check.specs.RightSide as definition;
 ghost use Rattle.form_check.specs.Walking as walking;
@@ -7,7 +7,7 @@ ghost use Rattle.form_check.specs.Walking as walking;
 use crate::CheckError;
 use form_ast::{Link, Sign};
 use form_base::Cause;
-use form_number::Capped;
+use form_number::{Capped, Number};
 
 /// The largest number, 2^127-1.
 pub const LARGEST_NUMBER: u128 = 170_141_183_460_469_231_731_687_303_715_884_105_727;
@@ -39,6 +39,17 @@ pub fn is_over(link: Link) -> bool
     ensures { result ≡ walking.is_over link }
 {
     link == Link::Over
+}
+
+/// The value of a number of at most so much.
+pub fn within(number: &Number, most: u128) -> Result<u128, CheckError>
+    requires { most < 2 ^ 127 }
+    ensures { Gives (λ value. value) result (definition.value_within most number.now) }
+{
+    let Some(value) = number.up_to(most) else {
+        return Err(CheckError::Refused(Cause::NumberRange, number.spot()));
+    };
+    Ok(value)
 }
 
 /// The size of a power of at most so much: 1 where none is written.

@@ -9,10 +9,10 @@ use crate::CheckError;
 use crate::ahead::power_at;
 use crate::kinds::{found, wrong_kind, wrong_name};
 use crate::known::Known;
-use crate::powers::{LARGEST_NUMBER, LARGEST_POWER, size_of};
+use crate::powers::{LARGEST_NUMBER, LARGEST_POWER, size_of, within};
 use crate::resolved::{End, Linked};
 use form_ast::{Named, Piece, Sign};
-use form_base::{Cause, Id};
+use form_base::Id;
 use form_names::{Kind, Names};
 use form_number::Number;
 use form_term::{Component, Index};
@@ -49,9 +49,7 @@ fn is_minus(sign: Option<Sign>) -> bool
 pub fn number_base(number: &Number) -> Result<Base, CheckError>
     ensures { Gives walking.base_of result (definition.number_base number.now) }
 {
-    let Some(value) = number.up_to(LARGEST_NUMBER) else {
-        return Err(CheckError::Refused(Cause::NumberRange, number.spot()));
-    };
+    let value = within(number, LARGEST_NUMBER)?;
     Ok(Base::Number(Natural::new(value)))
 }
 

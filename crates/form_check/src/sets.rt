@@ -6,10 +6,10 @@ ghost use Rattle.form_names.specs.Names.{AreElements, Entry, is_alike as is_alik
 
 use crate::CheckError;
 use crate::kinds::{found, wrong_kind};
-use crate::powers::LARGEST_NUMBER;
+use crate::powers::{LARGEST_NUMBER, within};
 use crate::resolved::Found;
 use form_ast::{Restriction, Sign, SignedNumber, Spelled, WrittenElements};
-use form_base::{Cause, Id};
+use form_base::Id;
 use form_names::{Elements, Ids, Kind, Names, Numbers};
 use form_tree::Sets;
 use std::alloc::{AllocError, Global};
@@ -112,9 +112,7 @@ fn number_element(number: &SignedNumber) -> Result<i128, CheckError>
     ensures { Gives (λ z. z) result (definition.number_element number.now) }
 {
     let SignedNumber { sign, number } = number;
-    let Some(value) = number.up_to(LARGEST_NUMBER) else {
-        return Err(CheckError::Refused(Cause::NumberRange, number.spot()));
-    };
+    let value = within(number, LARGEST_NUMBER)?;
     let size = value as i128;
     if *sign == Some(Sign::Minus) {
         Ok(-size)

@@ -1,11 +1,12 @@
 //! What remains of a product once equal factors are joined.
-ghost use Rattle.std.specs.Prelude.{◌≡◌, sum_by, count_by, IfOk, MatchOption};
+ghost use Rattle.std.specs.Prelude.{◌≡◌, true, false, List, sum_by, count_by, IfOk, MatchOption};
 ghost use Rattle.std.specs.List.{list_any, list_all};
+ghost use Rattle.form_ast.specs.declared.weight.Weight.{Weight};
 ghost use Rattle.form_ast.specs.Patterns.{is_same_name as is_same_name_of, is_same_key as is_same_key_of, size_at as size_at_of, is_cancelled as is_cancelled_of, stays as stays_in, has_name as has_name_of, stands_alone as stands_alone_in, are_balanced as are_balanced_of};
 
 use form_ast::{Key, Weight};
 use form_base::Name;
-use form_number::{Numeral, Total};
+use form_number::{Total, WholeNumber};
 use std::alloc::{AllocError, Global};
 
 fn is_same_name(name: &Name, is_marked: bool, other: &Name, is_other_marked: bool) -> bool
@@ -28,7 +29,7 @@ fn is_same_key(key: &Key, other: &Key) -> bool
 }
 
 /// The size of a power with this key, below zero or not, where it is one.
-fn size_at<'a>(key: &Key, below: bool, weight: &'a Weight) -> Option<&'a Numeral>
+fn size_at<'a>(key: &Key, below: bool, weight: &'a Weight) -> Option<&'a WholeNumber>
     ensures { MatchOption result (size_at_of key.now below weight.now ≡ 0) (λ size. size.now ≡ size_at_of key.now below weight.now) }
 {
     match weight {
@@ -38,14 +39,14 @@ fn size_at<'a>(key: &Key, below: bool, weight: &'a Weight) -> Option<&'a Numeral
     }
 }
 
-/// The sum of these sizes.
+/// The sum of the sizes of the powers with this key that are below zero, or of those that aren't.
 fn total(alloc: Global, weights: &[Weight], key: &Key, below: bool) -> Result<Total, AllocError>
     ensures { IfOk result (λ sum. sum ≡ sum_by (size_at_of key.now below) weights.now) }
 {
     let mut sum = Total::zero(alloc);
     for weight in weights {
         if let Some(size) = size_at(key, below, weight) {
-            sum = sum.plus(alloc, size)?;
+            sum = sum.plus(size)?;
         }
     }
     Ok(sum)
@@ -105,12 +106,44 @@ fn stands_alone(weights: &[Weight], weight: &Weight) -> bool
     }
 }
 
+/// Whether two keys are the same to the letter.
+fn is_that_key(key: &Key, other: &Key) -> bool
+    ensures { result ≡ true → key.now ≡ other.now }
+{
+    key == other
+}
+
+/// Whether a factor has the key of another one, so that both remain or none.
+fn has_key_of(weight: &Weight, other: &Weight) -> bool
+    ensures { result ≡ true → (ws : List Weight) → stays_in ws weight.now ≡ stays_in ws other.now }
+{
+    match (weight, other) {
+        (Weight::Keyed(key, _, _), Weight::Keyed(other_key, _, _)) => is_that_key(key, other_key),
+        _ => false,
+    }
+}
+
+/// Whether a factor remains where none of those before it does: of one that has the key of such a one nothing is added up.
+fn stays_behind(
+    alloc: Global,
+    weights: &[Weight],
+    before: &[Weight],
+    weight: &Weight,
+) -> Result<bool, AllocError>
+    ensures { IfOk result (λ remains. list_any (stays_in weights.now) before.now ≡ false → remains ≡ stays_in weights.now weight.now) }
+{
+    if before.iter().any(|other| has_key_of(weight, other)) {
+        return Ok(false);
+    }
+    stays(alloc, weights, weight)
+}
+
 /// Whether a factor remains.
 fn any_stays(alloc: Global, weights: &[Weight]) -> Result<bool, AllocError>
     ensures { IfOk result (λ any. any ≡ list_any (stays_in weights.now) weights.now) }
 {
-    for weight in weights {
-        if stays(alloc, weights, weight)? {
+    for place in 0..weights.len() {
+        if stays_behind(alloc, weights, &weights[..place], &weights[place])? {
             return Ok(true);
         }
     }
@@ -124,7 +157,7 @@ fn all_stand_alone(weights: &[Weight]) -> bool
     weights.iter().all(|weight| stands_alone(weights, weight))
 }
 
-/// Both.
+/// Whether a factor remains, and powers of wildcards stand on such names.
 pub fn are_balanced(alloc: Global, weights: &[Weight]) -> Result<bool, AllocError>
     ensures { IfOk result (λ balanced. balanced ≡ are_balanced_of weights.now) }
 {

@@ -8,7 +8,7 @@ ghost use Rattle.std.specs.Vec.Iter.{into_iter_items};
 ghost use Rattle.form_grammar.specs.declared.effect.Effect.TheVariants.{Adds, Waits, Changes, Opens, Encloses, Calls, Closes, Parts, Dots};
 ghost use Rattle.form_grammar.specs.declared.terminal.Terminal.TheVariants as by_terminal;
 ghost use Rattle.form_lexer.specs.Reading.{kind_of};
-ghost use Rattle.form_number.specs.Numbers.{number_of};
+ghost use Rattle.form_number.specs.Numbers.{value_of};
 ghost use Rattle.form_grammar.specs.Effect.{effect_of as effect_at, operator_effect as operator_effect_of, raise_effect as raise_effect_of, call_effect as call_effect_of};
 ghost use Rattle.form_grammar.specs.Reading.{Gives, applied, begun, changed as changed_by, changed_reading, finished, restriction_in, reading_of, room_for, run as run_from, step, with_name as with_name_of, with_number as with_number_of, with_set as with_set_of};
 ghost use Rattle.form_grammar.specs.Terminal.{built_in_terminal, kind_terminal, mark_terminal as mark_terminal_of, terminal_of};
@@ -25,7 +25,7 @@ use form_ast::{
 };
 use form_base::{Name, Spot};
 use form_lexer::{BuiltIn, Mark, Shape, Token, TokenKind};
-use form_number::{Number, Numeral};
+use form_number::{Number, WholeNumber};
 use std::alloc::{AllocError, Global};
 use std::mem::replace;
 use std::vec::IntoIter;
@@ -374,42 +374,30 @@ impl Reader {
         self.add(piece, expected)
     }
 
-    /// The number of a shape that has this value, and is written so.
+    /// The number that is written so.
     #[inline(always)]
-    fn number(&self, value: u128, text: &str, spot: Spot) -> Result<Number, AllocError>
-        ensures { IfOk result (λ number. number ≡ record { value = number_of value text.now; spot = spot }) }
+    fn number(&self, text: &str, spot: Spot) -> Result<Number, AllocError>
+        ensures { IfOk result (λ number. number ≡ record { value = value_of text.now; spot = spot }) }
     {
-        let numeral = Numeral::written(self.alloc, value, text.as_bytes())?;
-        Ok(Number::new(numeral, spot))
+        let value = WholeNumber::read(self.alloc, text.as_bytes())?;
+        Ok(Number::new(value, spot))
     }
 
     /// A number as a factor, behind which an operator is expected.
     #[inline(never)]
-    fn add_number(
-        &mut self,
-        link: Link,
-        value: u128,
-        text: &str,
-        spot: Spot,
-    ) -> Result<(), ReadError>
-        ensures { Gives (λ _. reading_of self.new) result (applied (reading_of self.old) (Adds (by_piece.Number link (record { value = number_of value text.now; spot = spot })) (Operator by_last.Base))) }
+    fn add_number(&mut self, link: Link, text: &str, spot: Spot) -> Result<(), ReadError>
+        ensures { Gives (λ _. reading_of self.new) result (applied (reading_of self.old) (Adds (by_piece.Number link (record { value = value_of text.now; spot = spot })) (Operator by_last.Base))) }
     {
-        let number = self.number(value, text, spot)?;
+        let number = self.number(text, spot)?;
         self.add(Piece::Number(link, number), Expected::Operator(Last::Base))
     }
 
     /// The number of a power that stands outside parentheses.
     #[inline(never)]
-    fn add_power(
-        &mut self,
-        sign: Option<Sign>,
-        value: u128,
-        text: &str,
-        spot: Spot,
-    ) -> Result<(), ReadError>
-        ensures { Gives (λ _. reading_of self.new) result (applied (reading_of self.old) (Adds (by_piece.Raised false sign (record { value = number_of value text.now; spot = spot })) (Operator by_last.Power))) }
+    fn add_power(&mut self, sign: Option<Sign>, text: &str, spot: Spot) -> Result<(), ReadError>
+        ensures { Gives (λ _. reading_of self.new) result (applied (reading_of self.old) (Adds (by_piece.Raised false sign (record { value = value_of text.now; spot = spot })) (Operator by_last.Power))) }
     {
-        let number = self.number(value, text, spot)?;
+        let number = self.number(text, spot)?;
         self.add(
             Piece::Raised(false, sign, number),
             Expected::Operator(Last::Power),
@@ -422,22 +410,21 @@ impl Reader {
         &mut self,
         setting: Setting,
         expected: Expected,
-        value: u128,
         text: &str,
         spot: Spot,
     ) -> Result<(), ReadError>
         requires { expected ≡ self.old.expected }
-        ensures { Gives (λ _. reading_of self.new) result (applied (reading_of self.old) (effect_at setting expected (by_terminal.Number (record { value = number_of value text.now; spot = spot })))) }
+        ensures { Gives (λ _. reading_of self.new) result (applied (reading_of self.old) (effect_at setting expected (by_terminal.Number (record { value = value_of text.now; spot = spot })))) }
     {
         match expected {
-            Expected::Factor(link) => self.add_number(link, value, text, spot),
-            Expected::Argument => self.add_number(Link::First, value, text, spot),
+            Expected::Factor(link) => self.add_number(link, text, spot),
+            Expected::Argument => self.add_number(Link::First, text, spot),
             Expected::Exponent {
                 is_on_enclosed: false,
                 is_parenthesized: false,
                 sign,
-            } => self.add_power(sign, value, text, spot),
-            _ => self.take_number_slowly(setting, value, text, spot),
+            } => self.add_power(sign, text, spot),
+            _ => self.take_number_slowly(setting, text, spot),
         }
     }
 
@@ -446,13 +433,12 @@ impl Reader {
     fn take_number_slowly(
         &mut self,
         setting: Setting,
-        value: u128,
         text: &str,
         spot: Spot,
     ) -> Result<(), ReadError>
-        ensures { Gives (λ _. reading_of self.new) result (applied (reading_of self.old) (effect_at setting self.old.expected (by_terminal.Number (record { value = number_of value text.now; spot = spot })))) }
+        ensures { Gives (λ _. reading_of self.new) result (applied (reading_of self.old) (effect_at setting self.old.expected (by_terminal.Number (record { value = value_of text.now; spot = spot })))) }
     {
-        let number = self.number(value, text, spot)?;
+        let number = self.number(text, spot)?;
         self.apply(effect_of(setting, self.expected, Terminal::Number(number)))
     }
 
@@ -667,7 +653,7 @@ impl Reader {
     {
         match shape {
             Shape::Mark(mark) => self.take_mark(setting, self.expected, mark),
-            Shape::Number(value) => { self.take_number(setting, self.expected, value, text, spot) }
+            Shape::Number => self.take_number(setting, self.expected, text, spot),
             Shape::Name => self.take_name(setting, self.expected, text, spot),
             Shape::BuiltIn(built_in) => self.take_built_in(setting, spot, built_in),
             Shape::Stray => self.take_stray(setting),

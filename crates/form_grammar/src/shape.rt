@@ -8,7 +8,7 @@ use crate::known::text_of;
 use crate::weights::{WeightChange, Weights};
 use form_ast::{Key, Link, Named, Piece, Sign, Weight};
 use form_base::Name;
-use form_number::Numeral;
+use form_number::WholeNumber;
 use std::alloc::{AllocError, Global};
 use std::marker::Model;
 
@@ -293,7 +293,7 @@ fn name_weight(alloc: Global, name: &Named) -> Result<Option<Weight>, AllocError
     ensures { IfOk result (λ w. w ≡ name_weight_of (text_of_name name.now)) }
 {
     let name = name_of(alloc, name)?;
-    Ok(Some(Weight::Keyed(Key::Alone(name, false), false, Numeral::small(1))))
+    Ok(Some(Weight::Keyed(Key::Alone(name, false), false, WholeNumber::small(1))))
 }
 
 fn is_minus(sign: Option<Sign>) -> bool
@@ -313,19 +313,23 @@ fn step(alloc: Global, shape: Shape, piece: &Piece) -> Result<Shape, AllocError>
         Piece::EndOfDot(name) => {
             inner_changed(WeightChange::Second(name_of(alloc, name)?), shape)
         }
-        Piece::Delta(link, _) => factor_added(*link, Some(Weight::Lone(Numeral::small(1))), shape),
+        Piece::Delta(link, _) => factor_added(
+            *link,
+            Some(Weight::Lone(WholeNumber::small(1))),
+            shape,
+        ),
         Piece::EntryName(_) | Piece::EntryNumber(_) | Piece::EndOfDelta => Ok(shape),
         Piece::Call(link, _) => level_opened(
             alloc,
             *link,
-            Some(Weight::Lone(Numeral::small(1))),
+            Some(Weight::Lone(WholeNumber::small(1))),
             shape,
         ),
         Piece::Comma => parted(alloc, shape),
         Piece::EndOfCall | Piece::Close => closed(alloc, shape),
         Piece::Open(link) => level_opened(alloc, *link, None, shape),
         Piece::Raised(_, sign, number) => {
-            let size = number.numeral(alloc)?;
+            let size = number.value(alloc)?;
             inner_changed(WeightChange::Size(is_minus(*sign), size), shape)
         }
         Piece::RaisedByName(_, _) => inner_changed(WeightChange::Free, shape),

@@ -66,7 +66,7 @@ impl From<Token> for Terminal {
     fn from(token: Token) -> Terminal {
         let Token { kind, spot } = token;
         match kind {
-            TokenKind::Number(numeral) => Terminal::Number(Number::new(numeral, spot)),
+            TokenKind::Number(value) => Terminal::Number(Number::new(value, spot)),
             TokenKind::Name(name) => Terminal::Name(Spelled { name, spot }),
             TokenKind::Mark(mark) => mark_terminal(mark),
             TokenKind::BuiltIn(BuiltIn::Imaginary) => Terminal::Imaginary(spot),

@@ -5,7 +5,7 @@ ghost use Rattle.form_grammar.specs.Shape.{changed as changed_by, marked_key as 
 
 use form_ast::{Key, Weight};
 use form_base::Name;
-use form_number::Numeral;
+use form_number::WholeNumber;
 use std::alloc::{AllocError, Global};
 use std::marker::Model;
 
@@ -13,7 +13,7 @@ use std::marker::Model;
 #[derive(Drop)]
 pub enum WeightChange {
     /// Its power, below zero or not, and the size of this.
-    Size(bool, Numeral),
+    Size(bool, WholeNumber),
     /// A wildcard as its power.
     Free,
     /// The mark of a wildcard.
@@ -38,7 +38,7 @@ impl Model for Weights {
 }
 
 /// A weight with another power.
-fn sized(weight: Weight, below: bool, size: Numeral) -> Weight
+fn sized(weight: Weight, below: bool, size: WholeNumber) -> Weight
     ensures { Some result ≡ changed_by (Size below size) weight }
 {
     match weight {

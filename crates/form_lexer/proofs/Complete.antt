@@ -7,7 +7,7 @@ use Rattle.std.specs.List.{AllPass}
 use Rattle.std.specs.Char.{is_ascii_digit, is_ascii_alphanumeric}
 use Rattle.std.proofs.lemmas.List.Elements.{All-head, All-cons, All-weaker}
 use Rattle.std.proofs.lemmas.Bool.{eq-eqb, ne_eqb}
-use Rattle.form_number.specs.Numbers.{capped_value, number_of, value_of}
+use Rattle.form_number.specs.Numbers.{value_of}
 use Rattle.form_lexer.specs.declared.mark.Mark as marks
 use Rattle.form_lexer.specs.declared.shape.Shape.{Shape}
 use Rattle.form_lexer.specs.declared.shape.Shape.TheVariants as shapes
@@ -16,7 +16,6 @@ use Rattle.form_lexer.specs.declared.token.TokenKind.TheVariants as kinds
 use Rattle.form_lexer.specs.Tokens.{IsWord, IsBracketed, IsWritten, HasNoClosing, mark_text, built_in_text}
 use Rattle.form_lexer.specs.Reading.{kind_of, front, token_at, number_at, word_at, bracket_at, mark_at, underscored, word_of, closed_at, single_mark}
 use Rattle.form_lexer.proofs.Classes.{at_digit, at_letter, at_opening, at_other, letter_is_alphanumeric}
-use Rattle.form_lexer.proofs.Values.{digits_number}
 use Rattle.form_lexer.proofs.Fronts.{front_all, front_ends, position_at, position_none}
 use Rattle.form_lexer.proofs.Marks.{mark_again, built_in_again, single_is, stray_word}
 
@@ -32,9 +31,8 @@ number_read : (c : ℕ) (cs : List ℕ) → AllPass is_ascii_digit (c ∷ cs) �
 unfolding number_at
 number_read c cs digits =
     let all = front_all is_ascii_digit (c ∷ cs) digits in
-    let text : take (front is_ascii_digit (c ∷ cs)) (c ∷ cs) ≡ c ∷ cs = ap (λ n. take n (c ∷ cs)) all ∙ take-length (c ∷ cs) in
     read_as (c ∷ cs) (kinds.Number (value_of (c ∷ cs))) (number_at (c ∷ cs)) (at_digit c cs (All-head (λ d. is_ascii_digit d ≡ true) c cs digits)) all
-    (ap kinds.Number (sym (digits_number (c ∷ cs)) ∙ ap (λ (t : List ℕ). number_of (capped_value (value_of t)) (c ∷ cs)) (sym text)))
+    refl
 
 pub word_of_is : (text : List ℕ) (l u : ℕ) → front is_ascii_alphanumeric text ≡ l → front (λ c. eqb c 95) (drop l text) ≡ u → word_at text ≡ word_of l u text
 unfolding word_at

@@ -1,4 +1,3 @@
-pub mod Values
 pub mod Fronts
 pub mod Marks
 pub mod Classes

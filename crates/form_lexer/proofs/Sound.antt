@@ -11,7 +11,6 @@ use Rattle.form_lexer.specs.declared.shape.Shape.{Shape}
 use Rattle.form_lexer.specs.declared.shape.Shape.TheVariants as shapes
 use Rattle.form_lexer.specs.Tokens.{IsWord, IsBracketed, IsUnderscored, IsWritten, HasNoClosing, is_blank, mark_text}
 use Rattle.form_lexer.specs.Reading.{kind_of, front, token_at, number_at, word_at, word_of, bracket_at, closed_at, mark_at, or_single, double_mark, single_mark, underscored}
-use Rattle.form_lexer.proofs.Values.{digits_number}
 use Rattle.form_lexer.proofs.Classes.{at_digit, at_letter, at_opening, at_other, letter_is_alphanumeric, not_alphanumeric}
 use Rattle.form_lexer.proofs.Complete.{word_alone, word_and_more}
 use Rattle.form_lexer.proofs.Fronts.{front_within, front_passes, front_stops, position_found, position_missed}
@@ -37,7 +36,7 @@ number_front c cs d =
     record {
       some = some;
       within = within;
-      written = (front_passes is_ascii_digit (c ∷ cs), not_empty (front is_ascii_digit (c ∷ cs)) (c ∷ cs) some within, digits_number (take (front is_ascii_digit (c ∷ cs)) (c ∷ cs)));
+      written = (front_passes is_ascii_digit (c ∷ cs), not_empty (front is_ascii_digit (c ∷ cs)) (c ∷ cs) some within, refl);
     }
 
 word_front : (c : ℕ) (cs : List ℕ) (n : ℕ) → is_ascii_alphabetic c ≡ true → n ≡ suc (front is_ascii_alphanumeric cs) → IsWord (take n (c ∷ cs))

@@ -10,12 +10,12 @@ use Rattle.form_lexer.specs.declared.shape.Shape.{Shape}
 use Rattle.form_lexer.specs.declared.shape.Shape.TheVariants as shapes
 use Rattle.form_lexer.specs.declared.token.TokenKind.{TokenKind}
 use Rattle.form_lexer.specs.declared.token.TokenKind.TheVariants as kinds
-use Rattle.form_number.specs.Numbers.{capped_value, number_of, value_of}
+use Rattle.form_number.specs.Numbers.{value_of}
 use Rattle.form_lexer.specs.Tokens.{BeginsWith}
 
 -- the kind of a token of this shape that is written so
 abbrev pub kind_of : Shape → List ℕ → TokenKind
-kind_of (shapes.Number value) text = kinds.Number (number_of value text)
+kind_of shapes.Number text = kinds.Number (value_of text)
 kind_of shapes.Name text = kinds.Name text
 kind_of (shapes.BuiltIn built_in) text = kinds.BuiltIn built_in
 kind_of (shapes.Mark mark) text = kinds.Mark mark
@@ -70,7 +70,7 @@ abbrev pub front : (ℕ → Bool) → List ℕ → ℕ
 front passes text = prefix_len passes text
 
 unfoldable pub number_at : List ℕ → Shape × ℕ
-number_at text = (shapes.Number (capped_value (value_of (take (front is_ascii_digit text) text))), front is_ascii_digit text)
+number_at text = (shapes.Number, front is_ascii_digit text)
 
 -- a word of so many letters and digits and so many underscores
 abbrev pub word_of : ℕ → ℕ → List ℕ → Shape × ℕ

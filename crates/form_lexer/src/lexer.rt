@@ -7,7 +7,7 @@ ghost use Rattle.form_lexer.specs.Reading.{kind_of, IsNext};
 use crate::shape::{blanks, token_at};
 use crate::{Shape, Token, TokenKind};
 use form_base::{Name, Spot};
-use form_number::Numeral;
+use form_number::WholeNumber;
 use std::alloc::{AllocError, Global};
 
 /// The kind of a token of this shape that is written so.
@@ -15,9 +15,7 @@ pub fn kind(alloc: Global, shape: Shape, text: &str) -> Result<TokenKind, AllocE
     ensures { IfOk result (λ kind. kind ≡ kind_of shape text.now) }
 {
     Ok(match shape {
-        Shape::Number(value) => {
-            TokenKind::Number(Numeral::written(alloc, value, text.as_bytes())?)
-        }
+        Shape::Number => TokenKind::Number(WholeNumber::read(alloc, text.as_bytes())?),
         Shape::Name => TokenKind::Name(Name::new(alloc, text)?),
         Shape::BuiltIn(built_in) => TokenKind::BuiltIn(built_in),
         Shape::Mark(mark) => TokenKind::Mark(mark),

@@ -6,13 +6,11 @@ ghost use Rattle.form_lexer.specs.Tokens.{is_blank};
 ghost use Rattle.form_lexer.specs.Reading.{front, double_mark as double_mark_of, single_mark as single_mark_of, underscored as underscored_of, number_at, word_at, bracket_at, mark_at, token_at as token_at_front};
 
 use crate::{BuiltIn, Mark};
-use form_number::capped_value;
 
-/// What a token is, before its name is kept.
+/// What a token is, before its name or its number is read.
 #[derive(Clone, Copy, Debug, PartialEq, Eq)]
 pub enum Shape {
-    /// Digits: their value, or 2^127 where it is past the limits.
-    Number(u128),
+    Number,
     Name,
     BuiltIn(BuiltIn),
     Mark(Mark),
@@ -119,8 +117,7 @@ fn underscored(word: &[u8]) -> Shape
 fn number(text: &[u8]) -> (Shape, usize)
     ensures { result ≡ number_at text.now }
 {
-    let length = digits(text);
-    (Shape::Number(capped_value(&text[..length])), length)
+    (Shape::Number, digits(text))
 }
 
 /// A text that begins with a letter.

@@ -1,12 +1,12 @@
 use crate::{BuiltIn, Mark};
 use form_base::{Name, Spot};
-use form_number::Numeral;
+use form_number::WholeNumber;
 
 /// What a token is.
 #[derive(Debug, Drop)]
 pub enum TokenKind {
     /// Digits, as their value.
-    Number(Numeral),
+    Number(WholeNumber),
     /// A letter, then letters and digits; or any text in `[` and `]`, with these.
     Name(Name),
     BuiltIn(BuiltIn),

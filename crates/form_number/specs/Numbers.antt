@@ -1,9 +1,9 @@
 -- Whole numbers as they are written.
-use Rattle.std.specs.Prelude.{◌<◌, ◌≤◌, ℕ, ◌+◌, ◌-◌, ◌*◌, ◌^◌, min, List, fold, nat_lt, if◌then◌else◌}
+use Rattle.std.specs.Prelude.{◌<◌, ◌≤◌, ℕ, ◌+◌, ◌-◌, ◌*◌, ◌^◌, min, List, fold}
 use Rattle.form_number.specs.Records.{WrittenNumber}
 use Rattle.form_number.specs.declared.number.Capped.{Capped}
-use Rattle.form_number.specs.declared.numeral.Held.{Held}
-use Rattle.form_number.specs.declared.numeral.Held.TheVariants as helds
+use Rattle.form_number.specs.declared.whole_number.Held.{Held}
+use Rattle.form_number.specs.declared.whole_number.Held.TheVariants as helds
 use Rattle.form_number.specs.declared.number.Written.{Written}
 use Rattle.form_number.specs.declared.number.Written.TheVariants as writtens
 
@@ -15,28 +15,24 @@ value_of digits = fold (λ value digit. value * 10 + (digit - 48)) 0 digits
 abbrev pub capped_value : ℕ → ℕ
 capped_value n = min n (2 ^ 127)
 
--- the number that digits are, where this is its value as far as limits ask
-abbrev pub number_of : ℕ → List ℕ → ℕ
-number_of value digits = if nat_lt value (2 ^ 127) then value else value_of digits
-
 -- a written number as far as limits ask
 abbrev pub capped : WrittenNumber → Capped
 capped n = record { value = capped_value n.value; spot = n.spot }
 
--- the value of a number, by itself or by its digits where it is past the limits
-abbrev pub numeral_value : Held → ℕ
-numeral_value (helds.Small value) = value
-numeral_value (helds.Far digits) = value_of digits.value
+-- the value of a number, by itself or by its digits where it is long
+abbrev pub whole_value : Held → ℕ
+whole_value (helds.Small value) = value
+whole_value (helds.Long digits) = value_of digits.value
 
 abbrev pub IsHeld : Held → Type 0
 IsHeld (helds.Small value) = value < 2 ^ 127
-IsHeld (helds.Far digits) = 2 ^ 127 ≤ value_of digits.value
+IsHeld (helds.Long digits) = 2 ^ 127 ≤ value_of digits.value
 
 -- the same of a number with its spot
 abbrev pub written_number : Written → WrittenNumber
 written_number (writtens.Small spot value) = record { value = value; spot = spot }
-written_number (writtens.Far spot digits) = record { value = value_of digits.value; spot = spot }
+written_number (writtens.Long spot digits) = record { value = value_of digits.value; spot = spot }
 
 abbrev pub IsWritten : Written → Type 0
 IsWritten (writtens.Small spot value) = value < 2 ^ 127
-IsWritten (writtens.Far spot digits) = 2 ^ 127 ≤ value_of digits.value
+IsWritten (writtens.Long spot digits) = 2 ^ 127 ≤ value_of digits.value

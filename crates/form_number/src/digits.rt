@@ -5,7 +5,7 @@ use std::alloc::{AllocError, Global};
 use std::marker::Model;
 
 /// What a number past every limit counts as where limits alone are asked: 2^127.
-pub const PAST_LIMITS: u128 = 1 << 127;
+pub(crate) const PAST_LIMITS: u128 = 1 << 127;
 
 /// The digits of a number, the highest first.
 #[derive(Debug, Drop)]
@@ -38,7 +38,7 @@ impl Digits {
 }
 
 /// The value of digits, at most 2^127.
-pub fn capped_value(digits: &[u8]) -> u128
+pub(crate) fn capped_value(digits: &[u8]) -> u128
     ensures { result ≡ capped (value_of digits.now) }
 {
     match small_value(digits) {
@@ -60,7 +60,7 @@ fn small_value(digits: &[u8]) -> Option<u64>
     Some(value)
 }
 
-/// The same of any digits.
+/// The value of any digits, at most 2^127.
 fn large_value(digits: &[u8]) -> u128
     ensures { result ≡ capped (value_of digits.now) }
 {

@@ -3,10 +3,9 @@
 
 mod digits;
 mod number;
-mod numeral;
 mod total;
+mod whole_number;
 
-pub use digits::capped_value;
 pub use number::{Capped, Number};
-pub use numeral::Numeral;
 pub use total::Total;
+pub use whole_number::WholeNumber;

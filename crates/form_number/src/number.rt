@@ -1,20 +1,20 @@
 ghost use Rattle.std.specs.Prelude.{◌≡◌, ◌<◌, ◌==◌, ◌^◌, nat_le, if◌then◌else◌, Some, None, IfOk};
 ghost use Rattle.form_number.specs.Numbers.{capped};
 
-use crate::Numeral;
+use crate::WholeNumber;
 use crate::digits::{Digits, PAST_LIMITS};
-use crate::numeral::Held;
+use crate::whole_number::Held;
 use form_base::Spot;
 use std::alloc::{AllocError, Global};
 use std::marker::Model;
 
-/// How a number is kept: with its spot first it takes 32 bytes.
+/// How a number with its spot is kept: so it takes 32 bytes, and 48 if the spot stood behind the number.
 #[derive(Debug, Drop)]
 pub(crate) enum Written {
     /// One below 2^127, by its value.
     Small(Spot, u128),
     /// Any other, by its digits.
-    Far(Spot, Box<Digits>),
+    Long(Spot, Box<Digits>),
 }
 
 /// A whole number as it is written, of any size, and where it stands.
@@ -45,12 +45,12 @@ pub struct Capped {
 }
 
 impl Number {
-    pub fn new(numeral: Numeral, spot: Spot) -> Number
-        ensures { result ≡ record { value = numeral; spot = spot } }
+    pub fn new(value: WholeNumber, spot: Spot) -> Number
+        ensures { result ≡ record { value = value; spot = spot } }
     {
-        let written = match numeral.held {
+        let written = match value.held {
             Held::Small(value) => Written::Small(spot, value),
-            Held::Far(digits) => Written::Far(spot, digits),
+            Held::Long(digits) => Written::Long(spot, digits),
         };
         Number { written }
     }
@@ -60,7 +60,7 @@ impl Number {
     {
         match &self.written {
             Written::Small(spot, _) => *spot,
-            Written::Far(spot, _) => *spot,
+            Written::Long(spot, _) => *spot,
         }
     }
 
@@ -69,7 +69,7 @@ impl Number {
     {
         match &self.written {
             Written::Small(_, value) => *value == 0,
-            Written::Far(_, _) => false,
+            Written::Long(_, _) => false,
         }
     }
 
@@ -93,7 +93,7 @@ impl Number {
                 value: *value,
                 spot: *spot,
             },
-            Written::Far(spot, _) => Capped {
+            Written::Long(spot, _) => Capped {
                 value: PAST_LIMITS,
                 spot: *spot,
             },
@@ -101,16 +101,16 @@ impl Number {
     }
 
     /// Its value.
-    pub fn numeral(&self, alloc: Global) -> Result<Numeral, AllocError>
-        ensures { IfOk result (λ numeral. numeral ≡ self.now.value) }
+    pub fn value(&self, alloc: Global) -> Result<WholeNumber, AllocError>
+        ensures { IfOk result (λ value. value ≡ self.now.value) }
     {
         let held = match &self.written {
             Written::Small(_, value) => Held::Small(*value),
-            Written::Far(_, digits) => {
+            Written::Long(_, digits) => {
                 let digits = Digits::new(alloc, digits.as_slice())?;
-                Held::Far(Box::new(alloc, digits)?)
+                Held::Long(Box::new(alloc, digits)?)
             }
         };
-        Ok(Numeral { held })
+        Ok(WholeNumber { held })
     }
 }

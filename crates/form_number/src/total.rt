@@ -1,10 +1,10 @@
 //! Sums of numbers of any size.
-ghost use Rattle.std.specs.Prelude.{◌≡◌, ◌+◌, ◌==◌, get_or, IfOk, ◌<◌};
+ghost use Rattle.std.specs.Prelude.{◌≡◌, ◌+◌, ◌/◌, ◌%◌, ◌^◌, ◌==◌, ◌<◌, ◌≤◌, max, get_or, length, take, drop, IfOk};
 ghost use Rattle.form_number.specs.Numbers.{value_of};
-ghost use Rattle.form_number.specs.Totals.{units, units_below, AreDigits};
+ghost use Rattle.form_number.specs.Totals.{units, units_below, with_digit, AreDigits};
 
-use crate::Numeral;
-use crate::numeral::Held;
+use crate::WholeNumber;
+use crate::whole_number::Held;
 use std::alloc::{AllocError, Global};
 use std::marker::Model;
 
@@ -34,12 +34,15 @@ impl Total {
         }
     }
 
-    /// The sum with a further number.
-    pub fn plus(self, alloc: Global, numeral: &Numeral) -> Result<Total, AllocError>
-        ensures { IfOk result (λ total. total ≡ self + numeral.now) }
+    /// The sum with a further number: it costs that one's digits, and on as far as a carry goes.
+    pub fn plus(self, number: &WholeNumber) -> Result<Total, AllocError>
+        ensures { IfOk result (λ total. total ≡ self + number.now) }
     {
-        let further = lowest_first(alloc, numeral)?;
-        let digits = sum_of(alloc, self.digits.as_slice(), further.as_slice())?;
+        let mut digits = self.digits;
+        match &number.held {
+            Held::Small(value) => add_value(&mut digits, 0, *value)?,
+            Held::Long(bytes) => add_bytes(&mut digits, bytes.as_slice())?,
+        }
         Ok(Total { digits })
     }
 
@@ -57,71 +60,66 @@ impl Total {
     }
 }
 
-/// The digits of a number: they may be above 9 where its bytes aren't digits.
-fn lowest_first(alloc: Global, numeral: &Numeral) -> Result<Vec<u8>, AllocError>
-    ensures { IfOk result (λ digits. units digits.items ≡ numeral.now) }
-{
-    match &numeral.held {
-        Held::Small(value) => {
-            let mut digits = Vec::new(alloc);
-            push_value(&mut digits, *value)?;
-            Ok(digits)
-        }
-        Held::Far(digits) => reversed(alloc, digits.as_slice()),
-    }
-}
-
-/// Puts the digits of a value above others: none for 0.
-#[tactic(auto, using(crate::proofs::Places::units_below_push))]
-fn push_value(digits: &mut Vec<u8>, value: u128) -> Result<(), AllocError>
+/// Adds what bytes write, the highest digit first: one that is no digit may count as more than 9.
+#[tactic(auto, using(crate::proofs::Places::byte_carried, crate::proofs::Places::digit_below))]
+fn add_bytes(digits: &mut Vec<u8>, bytes: &[u8]) -> Result<(), AllocError>
     requires { AreDigits digits.old.items }
-    ensures value { IfOk result (λ done. units digits.new.items ≡ units_below digits.old.items value) }
+    ensures value { IfOk result (λ done. units digits.new.items ≡ units digits.old.items + value_of bytes.now) }
     ensures digits { IfOk result (λ done. AreDigits digits.new.items) }
 {
+    let mut carry = 0;
+    for place in 0..bytes.len() {
+        let digit = bytes[bytes.len() - 1 - place].saturating_sub(b'0');
+        carry = add_at(digits, place, carry + u128::from(digit))?;
+    }
+    add_value(digits, bytes.len(), carry)
+}
+
+/// Adds a value to the digits, the lowest first, from a place on.
+#[tactic(auto, using(crate::proofs::Places::carried, crate::proofs::Places::carry_falls, crate::proofs::Places::digit_below, crate::proofs::Places::units_parted))]
+fn add_value(digits: &mut Vec<u8>, start: usize, value: u128) -> Result<(), AllocError>
+    requires digits { AreDigits digits.old.items }
+    requires start { start ≤ length digits.old.items }
+    requires value { value < 2 ^ 127 }
+    ensures value { IfOk result (λ done. units digits.new.items ≡ units_below (take start digits.old.items) (value + units (drop start digits.old.items))) }
+    ensures digits { IfOk result (λ done. AreDigits digits.new.items) }
+{
+    let mut place = start;
     let mut rest = value;
     while rest > 0 {
-        digits.push((rest % 10) as u8)?;
-        rest /= 10;
+        rest = add_at(digits, place, rest)?;
+        place += 1;
     }
     Ok(())
 }
 
-/// The digits whose bytes these are, turned round.
-#[tactic(auto, using(crate::proofs::Places::reversed_more))]
-fn reversed(alloc: Global, bytes: &[u8]) -> Result<Vec<u8>, AllocError>
-    ensures { IfOk result (λ digits. units digits.items ≡ value_of bytes.now) }
+/// Adds a value to the digit at a place, or behind the last one, and gives the carry.
+fn add_at(digits: &mut Vec<u8>, place: usize, value: u128) -> Result<u128, AllocError>
+    requires digits { AreDigits digits.old.items }
+    requires place { place ≤ length digits.old.items }
+    requires value { value < 2 ^ 127 }
+    ensures carry { IfOk result (λ carry. carry ≡ (get_or digits.old.items place 0 + value) / 10) }
+    ensures items { IfOk result (λ carry. digits.new.items ≡ with_digit digits.old.items place ((get_or digits.old.items place 0 + value) % 10)) }
+    ensures digits { IfOk result (λ carry. AreDigits digits.new.items) }
+    ensures length { IfOk result (λ carry. length digits.new.items ≡ max (length digits.old.items) (place + 1)) }
 {
-    let mut digits = Vec::new(alloc);
-    let mut place = bytes.len();
-    while place > 0 {
-        place -= 1;
-        digits.push(bytes[place].saturating_sub(b'0'))?;
-    }
-    Ok(digits)
+    let column = u128::from(digit_at(digits.as_slice(), place)) + value;
+    put(digits, place, (column % 10) as u8)?;
+    Ok(column / 10)
 }
 
-/// The digits of a sum: those of the summands may be above 9.
-fn sum_of(alloc: Global, left: &[u8], right: &[u8]) -> Result<Vec<u8>, AllocError>
-    ensures value { IfOk result (λ digits. units digits.items ≡ units left.now + units right.now) }
-    ensures digits { IfOk result (λ digits. AreDigits digits.items) }
+/// Puts a digit at a place, or behind the last one.
+fn put(digits: &mut Vec<u8>, place: usize, digit: u8) -> Result<(), AllocError>
+    requires { place ≤ length digits.old.items }
+    ensures items { IfOk result (λ done. digits.new.items ≡ with_digit digits.old.items place digit) }
+    ensures length { IfOk result (λ done. length digits.new.items ≡ max (length digits.old.items) (place + 1)) }
 {
-    let mut digits = Vec::new(alloc);
-    let mut carry = 0;
-    for place in 0..left.len().max(right.len()) {
-        let column = carry + column_at(left, right, place);
-        digits.push((column % 10) as u8)?;
-        carry = column / 10;
+    if place < digits.len() {
+        digits[place] = digit;
+        return Ok(());
     }
-    push_value(&mut digits, u128::from(carry))?;
-    Ok(digits)
-}
-
-/// The sum of the two digits at a place.
-fn column_at(left: &[u8], right: &[u8], place: usize) -> u16
-    ensures value { result ≡ get_or left.now place 0 + get_or right.now place 0 }
-    ensures limit { result < 512 }
-{
-    u16::from(digit_at(left, place)) + u16::from(digit_at(right, place))
+    digits.push(digit)?;
+    Ok(())
 }
 
 /// The digit at a place, 0 behind the last one.

@@ -3,5 +3,5 @@ use Rattle.std.specs.List.{list_any}
 use Rattle.form_ast.specs.Patterns.{stays}
 use Rattle.form_grammar.proofs.balance.any_stays.Given as goal
 
-abbrev pub invariant-loop-weight : goal.invariant-loop-weight
-invariant-loop-weight l = list_any (stays l.weights) (take l.weight-index l.weights) ≡ false
+abbrev pub invariant-loop-place : goal.invariant-loop-place
+invariant-loop-place l = list_any (stays l.weights) (take l.place l.weights) ≡ false
