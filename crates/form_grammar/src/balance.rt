@@ -123,7 +123,7 @@ fn has_key_of(weight: &Weight, other: &Weight) -> bool
     }
 }
 
-/// Whether a factor remains where none of those before it does: of one that has the key of such a one nothing is added up.
+/// Whether a factor remains, where none of those before it does: the powers of a key are added up once.
 fn stays_behind(
     alloc: Global,
     weights: &[Weight],
