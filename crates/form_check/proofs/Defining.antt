@@ -7,13 +7,13 @@ use Rattle.form_ast.specs.declared.expr.Expr.{Expr}
 use Rattle.form_base.specs.declared.cause.Cause.TheVariants.{Redeclared}
 use Rattle.form_tree.specs.declared.tree.Tree.{Tree}
 use Rattle.form_check.specs.declared.checked.Checked.TheVariants.{Local}
-use Rattle.form_check.specs.declared.error.CheckError.{CheckError}
-use Rattle.form_check.specs.declared.error.CheckError.TheVariants.{Memory}
+use Rattle.form_right_side.specs.declared.error.CheckError.{CheckError}
+use Rattle.form_right_side.specs.declared.error.CheckError.TheVariants.{Memory}
 use Rattle.form_check.specs.Checking.{State, is_defined_again, declared, definition, with_statement}
-use Rattle.form_check.specs.Refusal.{Refusal, refused, IsRefused, Gives, ◌>>=◌}
-use Rattle.form_check.specs.RightSide.{Known, nothing_known, right_side}
+use Rattle.form_right_side.specs.Refusal.{Refusal, refused, IsRefused, Gives, ◌>>=◌}
+use Rattle.form_right_side.specs.RightSide.{Known, nothing_known, right_side}
 use Rattle.form_check.specs.Standing.{stands}
-use Rattle.form_check.proofs.Loops.{IsRefused-before}
+use Rattle.form_right_side.proofs.Loops.{IsRefused-before}
 
 module _ (state : State) (spelled : Spelled) (right : Expr) (id : ℕ) (names : List Entry)
     (new : is_defined_again state (lookup state.names spelled.name) ≡ false)

@@ -6,10 +6,11 @@ use Rattle.std.proofs.lemmas.List.Folds.{list_any-append}
 use Rattle.form_check.specs.declared.checked.Checked.{Checked}
 use Rattle.form_check.specs.declared.checked.Checked.TheVariants.{Drop}
 use Rattle.form_check.specs.declared.checked.Selection.{Selection}
-use Rattle.form_check.specs.declared.standing.Standing.{Standing}
-use Rattle.form_check.specs.Marks.{AreMarksLawful, AreMarksOf, is_defined_in, stands_in, stays_in}
+use Rattle.form_right_side.specs.declared.standing.Standing.{Standing}
+use Rattle.form_right_side.specs.Marks.{AreMarksLawful, is_defined_in, stands_in, stays_in}
+use Rattle.form_check.specs.Marks.{AreMarksOf}
 use Rattle.form_check.specs.Standing.{is_definition, is_drop, means, defines, drops, stands}
-use Rattle.form_check.proofs.Loops.{rest}
+use Rattle.form_right_side.proofs.Loops.{rest}
 
 neither : (a b c : Bool) → (a && not (b || c)) ≡ ((a && not b) && not c)
 neither true true c = refl

@@ -12,27 +12,11 @@ use Rattle.form_names.specs.declared.elements.Elements.{Elements}
 use Rattle.form_ast.specs.declared.expr.Spelled.{Spelled}
 use Rattle.form_ast.specs.declared.statement.WrittenElements.{WrittenElements}
 use Rattle.form_ast.specs.declared.index_list.SpelledIndex.{SpelledIndex}
+use Rattle.form_right_side.proofs.Binding.{bind-Ok, else-Ok, ok_same}
 use Rattle.form_check.specs.Checker.{Keeps, KeepsDimensions}
 use Rattle.form_check.specs.Checking.{declared, declared_once, named, dimension_or, is_past_limit, index_with, index, set_once, set_with, set}
-use Rattle.form_check.specs.Sets.{elements as checked_elements}
-use Rattle.form_check.specs.Refusal.{Refusal, refused, ◌>>=◌, each}
-
--- ---- results
-
-pub bind-Ok : {A B : Type 0} (r : Result A Refusal) (next : A → Result B Refusal) (y : B) → (r >>= next) ≡ Ok y → (x : A) × (r ≡ Ok x) × (next x ≡ Ok y)
-bind-Ok (Ok x) next y is = (x, refl, is)
-bind-Ok (Err e) next y is = cc
-
-pub if-Ok : {A : Type 0} (test : Bool) (r : Result A Refusal) (cause : Cause) (spot : Spot) (y : A) → (if test then r else refused cause spot) ≡ Ok y → (test ≡ true) × (r ≡ Ok y)
-if-Ok true r cause spot y is = (refl, is)
-if-Ok false r cause spot y is = cc
-
-pub else-Ok : {A : Type 0} (test : Bool) (r : Result A Refusal) (cause : Cause) (spot : Spot) (y : A) → (if test then refused cause spot else r) ≡ Ok y → (test ≡ false) × (r ≡ Ok y)
-else-Ok true r cause spot y is = cc
-else-Ok false r cause spot y is = (refl, is)
-
-pub ok_same : {A : Type 0} {x y : A} → ◌≡◌ {A = Result A Refusal} (Ok x) (Ok y) → x ≡ y
-ok_same is = cc
+use Rattle.form_pattern.specs.Sets.{elements as checked_elements}
+use Rattle.form_right_side.specs.Refusal.{Refusal, refused, ◌>>=◌, each}
 
 -- ---- names
 

@@ -1,8 +1,8 @@
 -- Lists of what each gives.
 use Rattle.std.proofs.Common.{◌≡◌, List, [], ◌∷◌, All, Result, Ok, sym, subst}
 use Rattle.std.proofs.lemmas.List.Elements.{All-nil, All-cons}
-use Rattle.form_check.specs.Refusal.{Refusal, ◌>>=◌, listed}
-use Rattle.form_check.proofs.Growing.{bind-Ok, ok_same}
+use Rattle.form_right_side.specs.Refusal.{Refusal, ◌>>=◌, listed}
+use Rattle.form_right_side.proofs.Binding.{bind-Ok, ok_same}
 
 module _ {X Y : Type 0} (give : X → Result Y Refusal) where
   pub listed-cons : (x : X) (xs : List X) (ys : List Y) → listed give (x ∷ xs) ≡ Ok ys → (y : Y) × (more : List Y) × (give x ≡ Ok y) × (listed give xs ≡ Ok more) × (ys ≡ y ∷ more)

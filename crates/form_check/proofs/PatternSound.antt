@@ -20,17 +20,17 @@ use Rattle.form_tree.specs.declared.pattern.PatternPiece.TheVariants as pieces
 use Rattle.form_tree.specs.Pattern as pattern
 use Rattle.form_tree.specs.Patterns.{Pieces}
 use Rattle.form_tree.specs.Tree as tree
-use Rattle.form_check.specs.declared.resolved.End as ends
-use Rattle.form_check.specs.declared.resolved.End.TheVariants as an_end
-use Rattle.form_check.specs.declared.resolved.Head as heads
-use Rattle.form_check.specs.declared.resolved.Head.TheVariants as a_head
-use Rattle.form_check.specs.declared.powers.Power.{Power}
-use Rattle.form_check.specs.Refusal.{Refusal, ◌>>=◌}
-use Rattle.form_check.specs.RightSide.{largest_exponent, largest_power, counted, size_within, exponent, is_inverted, spelled_of, wrong, found, vector, named_end, fixed_end, head, symbol_named, alone, lone, argument, nothing_known, none_stands, sum, field_number}
-use Rattle.form_check.specs.Sets.{sets}
-use Rattle.form_check.specs.Pattern.{marked, both_sets, is_same_name, Raw, of_symbol, of_whole, of_dot, of_component, of_delta, of_function, in_word, symbol_raw, function_raw, raw_by_kind, raw_named, whole_raw, vector_name, dot_raw, PatternEnd, index_end, vector_end, marked_end, end_fixed, pattern_end, linked, linked_raw, delta_raw, empty_call_raw, only_end, component_end, component_raw, is_joined, behind_calls, calls_of, join, alone_factors, put, stays, in_row, joined, Made, ◌>>>◌, with_fixed, put_argument, sort_of, fixed_argument, any_by_sort, any_named, wild_argument, product_argument, call_raw, raised_raw, raws, raw, raw_to_power, pattern_arguments, pattern_argument, raws_of, fields_of, kept, pattern_from, pattern_checked}
+use Rattle.form_right_side.specs.declared.resolved.End as ends
+use Rattle.form_right_side.specs.declared.resolved.End.TheVariants as an_end
+use Rattle.form_right_side.specs.declared.resolved.Head as heads
+use Rattle.form_right_side.specs.declared.resolved.Head.TheVariants as a_head
+use Rattle.form_right_side.specs.declared.powers.Power.{Power}
+use Rattle.form_right_side.specs.Refusal.{Refusal, ◌>>=◌}
+use Rattle.form_right_side.specs.RightSide.{largest_exponent, largest_power, counted, size_within, exponent, is_inverted, spelled_of, wrong, found, vector, named_end, fixed_end, head, symbol_named, alone, lone, argument, nothing_known, none_stands, sum, field_number}
+use Rattle.form_pattern.specs.Sets.{sets}
+use Rattle.form_pattern.specs.Pattern.{marked, both_sets, is_same_name, Raw, of_symbol, of_whole, of_dot, of_component, of_delta, of_function, in_word, symbol_raw, function_raw, raw_by_kind, raw_named, whole_raw, vector_name, dot_raw, PatternEnd, index_end, vector_end, marked_end, end_fixed, pattern_end, linked, linked_raw, delta_raw, empty_call_raw, only_end, component_end, component_raw, is_joined, behind_calls, calls_of, join, alone_factors, put, stays, in_row, joined, Made, ◌>>>◌, with_fixed, put_argument, sort_of, fixed_argument, any_by_sort, any_named, wild_argument, product_argument, call_raw, raised_raw, raws, raw, raw_to_power, pattern_arguments, pattern_argument, raws_of, fields_of, kept, pattern_from, pattern_checked}
 use Rattle.form_check.specs.Sound.{IsOfKind, IsPieceSound, IsNameSound, IsIndexNameSound, IsAnySound, IsPatternPieceSound, IsFixedSound, IsPatternSound}
-use Rattle.form_check.proofs.Growing.{bind-Ok, ok_same}
+use Rattle.form_right_side.proofs.Binding.{bind-Ok, ok_same}
 use Rattle.form_check.proofs.Pieces.{found-sound, vector-sound, IsEndSound, named-end-sound, fixed-end-sound, IsHeadSound, head-sound, symbol-named-sound, fixed-sound}
 
 some_same : {A : Type 0} {x y : A} → Some x ≡ Some y → x ≡ y

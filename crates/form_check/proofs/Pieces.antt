@@ -20,16 +20,16 @@ use Rattle.form_tree.specs.declared.tree.Base as bases
 use Rattle.form_tree.specs.declared.tree.Base.TheVariants as by_base
 use Rattle.form_tree.specs.declared.tree.Exponent.{Exponent}
 use Rattle.form_tree.specs.Tree as tree
-use Rattle.form_check.specs.declared.resolved.End as ends
-use Rattle.form_check.specs.declared.resolved.End.TheVariants as an_end
-use Rattle.form_check.specs.declared.resolved.Found.{Found}
-use Rattle.form_check.specs.declared.resolved.Head as heads
-use Rattle.form_check.specs.declared.resolved.Head.TheVariants as a_head
-use Rattle.form_check.specs.declared.powers.Power.{Power}
-use Rattle.form_check.specs.Refusal.{Refusal, ◌>>=◌}
-use Rattle.form_check.specs.RightSide.{Known, is_wildcard, field_number, wrong, spelled_of, counted, value_within, size_within, exponent, number_exponent, has_minus, is_minus, is_below_zero, is_inverted, size_alone, largest_number, largest_exponent, largest_power, largest_index, number, symbol, found, found_as, found_at, by_kind, name, vector, vector_of, dot, end, named_end, fixed_end, end_of, linked, linked_index, linked_to, delta, head, head_of, alone, only_end, component_end, call_by, empty_call_by, lone, lone_named, lone_at, lone_of, argument, none_stands, symbol_factor, symbol_named, symbol_of, number_base, symbol_base, base_alone, base_by_kind, name_base, dot_base, linked_index_base, linked_base, delta_base, empty_call_base, call_base, sum, product, factor, to_power, base, arguments, one_argument}
+use Rattle.form_right_side.specs.declared.resolved.End as ends
+use Rattle.form_right_side.specs.declared.resolved.End.TheVariants as an_end
+use Rattle.form_right_side.specs.declared.resolved.Found.{Found}
+use Rattle.form_right_side.specs.declared.resolved.Head as heads
+use Rattle.form_right_side.specs.declared.resolved.Head.TheVariants as a_head
+use Rattle.form_right_side.specs.declared.powers.Power.{Power}
+use Rattle.form_right_side.specs.Refusal.{Refusal, ◌>>=◌}
+use Rattle.form_right_side.specs.RightSide.{Known, is_wildcard, field_number, wrong, spelled_of, counted, value_within, size_within, exponent, number_exponent, has_minus, is_minus, is_below_zero, is_inverted, size_alone, largest_number, largest_exponent, largest_power, largest_index, number, symbol, found, found_as, found_at, by_kind, name, vector, vector_of, dot, end, named_end, fixed_end, end_of, linked, linked_index, linked_to, delta, head, head_of, alone, only_end, component_end, call_by, empty_call_by, lone, lone_named, lone_at, lone_of, argument, none_stands, symbol_factor, symbol_named, symbol_of, number_base, symbol_base, base_alone, base_by_kind, name_base, dot_base, linked_index_base, linked_base, delta_base, empty_call_base, call_base, sum, product, factor, to_power, base, arguments, one_argument}
 use Rattle.form_check.specs.Sound.{IsOfKind, IsIndexSound, IsBaseSound, IsPieceSound}
-use Rattle.form_check.proofs.Growing.{bind-Ok, if-Ok, ok_same}
+use Rattle.form_right_side.proofs.Binding.{bind-Ok, if-Ok, ok_same}
 
 some_same : {A : Type 0} {x y : A} → Some x ≡ Some y → x ≡ y
 some_same is = cc

@@ -7,15 +7,15 @@ use Rattle.form_tree.specs.Patterns.{Pieces}
 use Rattle.form_check.specs.declared.checked.Checked.{Checked}
 use Rattle.form_check.specs.declared.checked.Checked.TheVariants.{Rewrite}
 use Rattle.form_check.specs.declared.checked.Rewriting.{Rewriting}
-use Rattle.form_check.specs.declared.standing.Standing.{Standing}
+use Rattle.form_right_side.specs.declared.standing.Standing.{Standing}
 use Rattle.form_check.specs.Marks.{AreMarksOf}
 use Rattle.form_check.specs.Standing.{is_definition, is_drop, defines, drops, stands}
-use Rattle.form_check.specs.declared.error.CheckError.{CheckError}
+use Rattle.form_right_side.specs.declared.error.CheckError.{CheckError}
 use Rattle.form_check.specs.Checking.{State, rewriting, with_statement}
-use Rattle.form_check.specs.Pattern.{known_of, pattern_checked}
-use Rattle.form_check.specs.Refusal.{Refusal, IsRefused, ◌>>=◌}
-use Rattle.form_check.specs.RightSide.{Known, none_stands, right_side}
-use Rattle.form_check.proofs.Loops.{IsRefused-before}
+use Rattle.form_pattern.specs.Pattern.{known_of, pattern_checked}
+use Rattle.form_right_side.specs.Refusal.{Refusal, IsRefused, ◌>>=◌}
+use Rattle.form_right_side.specs.RightSide.{Known, none_stands, right_side}
+use Rattle.form_right_side.proofs.Loops.{IsRefused-before}
 
 -- ---- marks
 

@@ -35,8 +35,8 @@ use Rattle.form_check.specs.declared.checked.Rewriting.{Rewriting}
 use Rattle.form_check.specs.declared.checked.Selection.{Selection}
 use Rattle.form_check.specs.declared.checked.Selection.TheVariants as selections
 use Rattle.form_check.specs.Checking.{State, start, ended, with_statement, declared, named, kind_declared, dimension, index, expression, expressions, expression_of, selection, set, definition, rewriting, by_form, statement, class_of, is_defined_again, module_checked, program}
-use Rattle.form_check.specs.Refusal.{Refusal, ◌>>=◌, each}
-use Rattle.form_check.specs.RightSide.{Known, nothing_known, found, none_stands, sum, right_side}
+use Rattle.form_right_side.specs.Refusal.{Refusal, ◌>>=◌, each}
+use Rattle.form_right_side.specs.RightSide.{Known, nothing_known, found, none_stands, sum, right_side}
 use Rattle.form_check.specs.Checker.{Keeps}
 use Rattle.form_ast.specs.Building.{tree_of}
 use Rattle.form_ast.specs.Syntax as syntax
@@ -44,12 +44,13 @@ use Rattle.form_tree.specs.Tree.{pieces_of_sum}
 use Rattle.form_check.specs.Program.{Program}
 use Rattle.form_check.specs.Sound.{IsOfKind, IsIndexSound, IsBaseSound, IsPieceSound, IsNameSound, IsIndexNameSound, IsAnySound, IsPatternPieceSound, IsFixedSound, IsPatternSound, IsRewritingSound, IsRightSideSound, IsSelectionSound, IsStatementSound, AreModulesSound, IsSound}
 use Rattle.form_check.specs.Standing.{stands}
-use Rattle.form_check.proofs.Growing.{bind-Ok, else-Ok, ok_same, declared-Ok, named-keeps, index-keeps, set-keeps, all-keep}
-use Rattle.form_check.specs.Pattern.{known_of, pattern_checked}
+use Rattle.form_right_side.proofs.Binding.{bind-Ok, else-Ok, ok_same}
+use Rattle.form_check.proofs.Growing.{declared-Ok, named-keeps, index-keeps, set-keeps, all-keep}
+use Rattle.form_pattern.specs.Pattern.{known_of, pattern_checked}
 use Rattle.form_check.proofs.PatternSound.{pattern-sound}
 use Rattle.form_check.proofs.Pieces.{found-sound, sum-sound}
 use Rattle.form_check.proofs.Lists.{listed-All}
-use Rattle.form_check.proofs.Whole.{whole-tree}
+use Rattle.form_right_side.proofs.Whole.{whole-tree}
 
 -- ---- names that are added change nothing
 

@@ -24,10 +24,10 @@ use Rattle.form_check.specs.declared.checked.Checked.TheVariants.{Drop, Skip, Lo
 use Rattle.form_check.specs.declared.checked.Selection.{Selection}
 use Rattle.form_check.specs.declared.checked.Selection.TheVariants as selections
 use Rattle.form_check.specs.Program.{Program}
-use Rattle.form_check.specs.Refusal.{Refusal, refused, ◌>>=◌, each, listed}
-use Rattle.form_check.specs.RightSide.{value_within, found, wrong_kind, right_side, nothing_known, none_stands}
-use Rattle.form_check.specs.Pattern.{pattern_checked, known_of}
-use Rattle.form_check.specs.Sets.{elements}
+use Rattle.form_right_side.specs.Refusal.{Refusal, refused, ◌>>=◌, each, listed}
+use Rattle.form_right_side.specs.RightSide.{value_within, found, wrong_kind, right_side, nothing_known, none_stands}
+use Rattle.form_pattern.specs.Pattern.{pattern_checked, known_of}
+use Rattle.form_pattern.specs.Sets.{elements}
 use Rattle.form_check.specs.Standing.{defines, stands}
 
 -- how many names may be declared

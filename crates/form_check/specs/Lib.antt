@@ -1,15 +1,6 @@
 pub mod Checker
 pub mod Checking
-pub mod Joining
 pub mod Marks
-pub mod Parting
-pub mod Pattern
-pub mod PatternWalking
-pub mod Plain
 pub mod Program
-pub mod Refusal
-pub mod RightSide
-pub mod Sets
 pub mod Sound
 pub mod Standing
-pub mod Walking

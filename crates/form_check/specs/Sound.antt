@@ -27,7 +27,7 @@ use Rattle.form_check.specs.declared.checked.Rewriting.{Rewriting}
 use Rattle.form_check.specs.declared.checked.Selection.{Selection}
 use Rattle.form_check.specs.declared.checked.Selection.TheVariants as selections
 use Rattle.form_check.specs.Program.{Program}
-use Rattle.form_check.specs.RightSide.{largest_number, largest_exponent, largest_power, largest_index, none_stands}
+use Rattle.form_right_side.specs.RightSide.{largest_number, largest_exponent, largest_power, largest_index, none_stands}
 use Rattle.form_check.specs.Standing.{stands}
 
 -- the Id is one of the names, of this kind

@@ -3,24 +3,23 @@ ghost use Rattle.form_ast.specs.Lawful.{AreLawful, ArePattern, AreRight, IsLawfu
 ghost use Rattle.form_check.specs.Checker.{state_of, IsConsistent};
 ghost use Rattle.form_check.specs.Checking as checking;
 ghost use Rattle.form_check.specs.Checking.{definition, is_defined_again, module_checked, program, rewriting, start, with_statement, most_names};
+ghost use Rattle.form_right_side.specs.Marks.{current_in};
 ghost use Rattle.form_check.specs.Marks.{AreMarksOf};
-ghost use Rattle.form_check.specs.Refusal.{Gives};
-ghost use Rattle.form_check.specs.RightSide.{nothing_known};
+ghost use Rattle.form_right_side.specs.Refusal.{Gives};
+ghost use Rattle.form_right_side.specs.RightSide.{nothing_known};
 ghost use Rattle.form_check.specs.Sound.{IsSound};
 ghost use Rattle.form_names.specs.Names.{lookup, IsDimension};
 
-use crate::knowing::known_of;
-use crate::known::Known;
 use crate::naming::{
-    copy_of, declare, declare_indices, declare_names, declare_set, dimension, selection_of,
+    declare, declare_indices, declare_names, declare_set, dimension, selection_of,
 };
-use crate::pattern::pattern;
-use crate::right_side::{right_side, right_side_of_pattern};
-use crate::standing::Standing;
+use crate::standing::drop_selected;
 use crate::{CheckError, Checked, Module, Program, Rewriting};
 use form_ast::{LongExpr, Placed, Rewrite, Spelled, Statement};
 use form_base::Cause;
 use form_names::{Dimension, Kind, Names};
+use form_pattern::{known_of, pattern};
+use form_right_side::{Known, Standing, copy_of, right_side, right_side_of_pattern};
 use std::alloc::Global;
 use std::mem;
 
@@ -56,7 +55,7 @@ impl Checker {
     fn new(alloc: Global) -> Checker
         ensures state { state_of result ≡ start }
         ensures consistent { IsConsistent result }
-        ensures current { result.standing.current ≡ 1 }
+        ensures current { current_in result.standing ≡ 1 }
     {
         Checker {
             names: Names::new(alloc),
@@ -71,10 +70,10 @@ impl Checker {
     fn module(&mut self, alloc: Global, written: form_ast::Module) -> Result<(), CheckError>
         requires consistent { IsConsistent self.old }
         requires lawful { All (λ placed. IsLawfulStatement placed.statement) written }
-        requires room { self.old.standing.current + 1 < 2 ^ 64 }
+        requires room { current_in self.old.standing + 1 < 2 ^ 64 }
         ensures checked { Gives (λ _. state_of self.new) result (module_checked (state_of self.old) written) }
         ensures consistent { OnOk result (IsConsistent self.new) }
-        ensures current { OnOk result (self.new.standing.current ≡ self.old.standing.current + 1) }
+        ensures current { OnOk result (current_in self.new.standing ≡ current_in self.old.standing + 1) }
     {
         for placed in written.into_vec() {
             self.statement(alloc, placed)?;
@@ -91,7 +90,7 @@ impl Checker {
         requires lawful { IsLawfulStatement placed.statement }
         ensures checked { Gives (λ _. state_of self.new) result (checking.statement (state_of self.old) placed) }
         ensures consistent { OnOk result (IsConsistent self.new) }
-        ensures current { OnOk result (self.new.standing.current ≡ self.old.standing.current) }
+        ensures current { OnOk result (current_in self.new.standing ≡ current_in self.old.standing) }
     {
         let Placed { spot, statement } = placed;
         let class = class_of(&statement);
@@ -116,7 +115,7 @@ impl Checker {
             Statement::Statistics => Ok(()),
             Statement::Drop(list) => {
                 let which = selection_of(alloc, &self.names, list.as_slice())?;
-                self.standing.drop_selected(&which)?;
+                drop_selected(&mut self.standing, &which)?;
                 self.keep(Checked::Drop(which))
             }
             Statement::Skip(list) => {
@@ -143,7 +142,7 @@ impl Checker {
         requires lawful { AreLawful right }
         ensures checked { Gives (λ _. state_of self.new) result (definition (state_of self.old) spelled.now right) }
         ensures consistent { OnOk result (IsConsistent self.new) }
-        ensures current { OnOk result (self.new.standing.current ≡ self.old.standing.current) }
+        ensures current { OnOk result (current_in self.new.standing ≡ current_in self.old.standing) }
     {
         if self.has_defined(spelled.name.as_str()) {
             let name = copy_of(alloc, spelled)?;
@@ -163,7 +162,7 @@ impl Checker {
         requires right { AreRight rewrite.now.pattern rewrite.now.right }
         ensures checked { Gives (λ _. state_of self.new) result (rewriting (state_of self.old) rewrite.now) }
         ensures consistent { OnOk result (IsConsistent self.new) }
-        ensures current { OnOk result (self.new.standing.current ≡ self.old.standing.current) }
+        ensures current { OnOk result (current_in self.new.standing ≡ current_in self.old.standing) }
     {
         let written = rewrite.pattern.as_slice();
         let known = known_of(alloc, &self.names, written)?;
@@ -206,7 +205,7 @@ impl Checker {
         ensures kept { OnOk result (state_of self.new ≡ with_statement (state_of self.old) statement) }
         ensures memory { IfErr result (λ e. e ≡ CheckError.Memory) }
         ensures consistent { OnOk result (IsConsistent self.new) }
-        ensures current { OnOk result (self.new.standing.current ≡ self.old.standing.current) }
+        ensures current { OnOk result (current_in self.new.standing ≡ current_in self.old.standing) }
     {
         self.statements.push(statement)?;
         Ok(())

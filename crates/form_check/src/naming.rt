@@ -2,18 +2,17 @@
 ghost use Rattle.std.specs.Prelude.{◌≡◌, ◌<◌, ◌≤◌, false, List, Some, Result, length, IfOk, OnOk};
 ghost use Rattle.form_check.specs.Checker.{KeepsDimensions};
 ghost use Rattle.form_check.specs.Checking.{declared, named, kind_declared, dimension as dimension_written, dimension_or as dimension_or_of, index as index_declared, set as set_declared, set_once, set_with, is_past_limit, expression, expressions, selection, most_names};
-ghost use Rattle.form_check.specs.Refusal.{Refusal, Gives, IsRefused, each};
+ghost use Rattle.form_right_side.specs.Refusal.{Refusal, Gives, IsRefused, each};
 ghost use Rattle.form_base.specs.declared.cause.Cause.TheVariants as causes;
 ghost use Rattle.form_names.specs.declared.elements.Elements.{Elements};
 ghost use Rattle.form_names.specs.Names.{AreElements, Entry, declare_set as declare_set_of, lookup, IsDimension, IsKind};
 
-use crate::kinds::{found, wrong_kind};
-use crate::powers::within;
-use crate::sets::elements;
 use crate::{CheckError, IdList, Selection};
 use form_ast::{Declared, Spelled, SpelledIndex, WrittenElements};
-use form_base::{Cause, Id, Name};
+use form_base::{Cause, Id};
 use form_names::{DeclareError, Dimension, Elements, Kind, Names};
+use form_pattern::elements;
+use form_right_side::{copy_of, found, within, wrong_kind};
 use std::alloc::{AllocError, Global};
 
 /// How many names may be declared.
@@ -21,13 +20,6 @@ const MOST_NAMES: u32 = 16_777_216;
 
 /// The largest dimension that is a number.
 const LARGEST_DIMENSION: u32 = 1_000;
-
-/// A copy of a name, for a cause or to be declared.
-pub fn copy_of(alloc: Global, spelled: &Spelled) -> Result<Name, AllocError>
-    ensures { IfOk result (λ name. name ≡ spelled.now.name) }
-{
-    Name::new(alloc, spelled.name.as_str())
-}
 
 /// Declares a name.
 #[tactic(auto, using(crate::proofs::Growing::declare_keeps))]

@@ -1,172 +1,28 @@
-//! Which expressions stand at the start of a module.
-ghost use Rattle.std.specs.Prelude.{◌≡◌, ◌+◌, ◌<◌, ◌^◌, ℕ, false, ◌==◌, ◌||◌, ◌&&◌, not, if◌then◌else◌, OnOk};
-ghost use Rattle.form_check.specs.Marks.{mark_at, stands_in, is_defined_in, stays_in, AreMarksLawful};
+//! What a statement drops.
+ghost use Rattle.std.specs.Prelude.{◌≡◌, ℕ, ◌&&◌, not, OnOk};
+ghost use Rattle.form_right_side.specs.Marks.{current_in, stands_in, is_defined_in, stays_in, AreMarksLawful};
 ghost use Rattle.form_check.specs.Standing.{means};
 
 use crate::Selection;
-use form_base::Id;
-use std::alloc::{AllocError, Global};
+use form_right_side::Standing;
+use std::alloc::AllocError;
 
-/// What was done to an expression. Modules are numbered from 1; 0 is none.
-#[derive(Clone, Copy, Debug, PartialEq, Eq)]
-pub struct Mark {
-    /// The last module that defines it.
-    defined: u64,
-    /// The last module that drops it by name, where it stood at that module's start.
-    dropped: u64,
-    /// Whether it stood at the start of the module `defined`.
-    stood: bool,
-}
-
-impl Mark {
-    const NONE: Mark = Mark {
-        defined: 0,
-        dropped: 0,
-        stood: false,
-    };
-}
-
-/// The expressions that stand at the start of the module that is checked, and what this module did to them so far. A
-/// module costs as much as it has statements, however many expressions there are.
-#[derive(Drop)]
-pub struct Standing {
-    /// The number of the module.
-    current: u64,
-    /// Whether it drops all.
-    drops_all: bool,
-    /// The last module before it that drops all.
-    all_dropped: u64,
-    /// Marks by `Id`; past them nothing was done.
-    marks: Vec<Mark>,
-}
-
-impl Standing {
-    /// At the start of the first module.
-    pub fn new(alloc: Global) -> Standing
-        ensures current { result.current ≡ 1 }
-        ensures lawful { AreMarksLawful result }
-        ensures stands { (e : ℕ) → stands_in result e ≡ false }
-        ensures defines { (e : ℕ) → is_defined_in result e ≡ false }
-        ensures stays { (e : ℕ) → stays_in result e ≡ false }
-    {
-        Standing {
-            current: 1,
-            drops_all: false,
-            all_dropped: 0,
-            marks: Vec::new(alloc),
-        }
-    }
-
-    fn mark(&self, id: Id) -> Mark
-        ensures { result ≡ mark_at self.now.marks.items id }
-    {
-        match self.marks.get(id.position() as usize) {
-            Some(mark) => *mark,
-            None => Mark::NONE,
-        }
-    }
-
-    /// Whether the expression stands at the start of the module.
-    pub fn stands(&self, id: Id) -> bool
-        ensures { result ≡ stands_in self.now id }
-    {
-        let mark = self.mark(id);
-        if mark.defined == self.current {
-            return mark.stood;
-        }
-        let is_dropped = mark.dropped > mark.defined && mark.dropped != self.current;
-        mark.defined > 0 && self.all_dropped <= mark.defined && !is_dropped
-    }
-
-    /// Whether the module defines the expression.
-    pub fn is_defined(&self, id: Id) -> bool
-        ensures { result ≡ is_defined_in self.now id }
-    {
-        self.mark(id).defined == self.current
-    }
-
-    /// The module defines the expression.
-    pub fn define(&mut self, id: Id) -> Result<(), AllocError>
-        requires { AreMarksLawful self.old }
-        ensures current { OnOk result (self.new.current ≡ self.old.current) }
-        ensures lawful { OnOk result (AreMarksLawful self.new) }
-        ensures stands { OnOk result ((e : ℕ) → stands_in self.new e ≡ stands_in self.old e) }
-        ensures defines { OnOk result ((e : ℕ) → is_defined_in self.new e ≡ (is_defined_in self.old e || (id == e))) }
-        ensures stays { OnOk result ((e : ℕ) → stays_in self.new e ≡ stays_in self.old e) }
-    {
-        let mark = Mark {
-            defined: self.current,
-            dropped: self.mark(id).dropped,
-            stood: self.stands(id),
-        };
-        set_mark(&mut self.marks, id, mark)
-    }
-
-    /// The module drops these expressions, where they stand at its start.
-    pub fn drop_selected(&mut self, which: &Selection) -> Result<(), AllocError>
-        requires { AreMarksLawful self.old }
-        ensures current { OnOk result (self.new.current ≡ self.old.current) }
-        ensures lawful { OnOk result (AreMarksLawful self.new) }
-        ensures stands { OnOk result ((e : ℕ) → stands_in self.new e ≡ stands_in self.old e) }
-        ensures defines { OnOk result ((e : ℕ) → is_defined_in self.new e ≡ is_defined_in self.old e) }
-        ensures stays { OnOk result ((e : ℕ) → stays_in self.new e ≡ (stays_in self.old e && not (means which.now e))) }
-    {
-        match which {
-            Selection::All => self.drops_all = true,
-            Selection::Named(ids) => {
-                for id in ids.as_slice() {
-                    self.drop_named(*id)?;
-                }
+/// The module drops these expressions, where they stand at its start.
+pub fn drop_selected(standing: &mut Standing, which: &Selection) -> Result<(), AllocError>
+    requires { AreMarksLawful standing.old }
+    ensures current { OnOk result (current_in standing.new ≡ current_in standing.old) }
+    ensures lawful { OnOk result (AreMarksLawful standing.new) }
+    ensures stands { OnOk result ((e : ℕ) → stands_in standing.new e ≡ stands_in standing.old e) }
+    ensures defines { OnOk result ((e : ℕ) → is_defined_in standing.new e ≡ is_defined_in standing.old e) }
+    ensures stays { OnOk result ((e : ℕ) → stays_in standing.new e ≡ (stays_in standing.old e && not (means which.now e))) }
+{
+    match which {
+        Selection::All => standing.drop_all(),
+        Selection::Named(ids) => {
+            for id in ids.as_slice() {
+                standing.drop_named(*id)?;
             }
         }
-        Ok(())
     }
-
-    /// The module drops the expression, where it stands at its start.
-    fn drop_named(&mut self, id: Id) -> Result<(), AllocError>
-        requires { AreMarksLawful self.old }
-        ensures current { OnOk result (self.new.current ≡ self.old.current) }
-        ensures lawful { OnOk result (AreMarksLawful self.new) }
-        ensures stands { OnOk result ((e : ℕ) → stands_in self.new e ≡ stands_in self.old e) }
-        ensures defines { OnOk result ((e : ℕ) → is_defined_in self.new e ≡ is_defined_in self.old e) }
-        ensures stays { OnOk result ((e : ℕ) → stays_in self.new e ≡ (stays_in self.old e && not (id == e))) }
-    {
-        if !self.stands(id) {
-            return Ok(());
-        }
-        let mark = Mark {
-            dropped: self.current,
-            ..self.mark(id)
-        };
-        set_mark(&mut self.marks, id, mark)
-    }
-
-    /// The module ends, and the next one begins.
-    pub fn end_module(&mut self)
-        requires lawful { AreMarksLawful self.old }
-        requires room { self.old.current + 1 < 2 ^ 64 }
-        ensures lawful { AreMarksLawful self.new }
-        ensures current { self.new.current ≡ self.old.current + 1 }
-        ensures stands { (e : ℕ) → stands_in self.new e ≡ (is_defined_in self.old e || stays_in self.old e) }
-        ensures defines { (e : ℕ) → is_defined_in self.new e ≡ false }
-        ensures stays { (e : ℕ) → stays_in self.new e ≡ stands_in self.new e }
-    {
-        if self.drops_all {
-            self.all_dropped = self.current;
-        }
-        self.drops_all = false;
-        self.current += 1;
-    }
-}
-
-/// Sets a mark.
-fn set_mark(marks: &mut Vec<Mark>, id: Id, mark: Mark) -> Result<(), AllocError>
-    ensures { OnOk result ((e : ℕ) → mark_at marks.new.items e ≡ (if id == e then mark else mark_at marks.old.items e)) }
-{
-    let position = id.position() as usize;
-    while marks.len() <= position {
-        marks.push(Mark::NONE)?;
-    }
-    marks[position] = mark;
     Ok(())
 }

@@ -11,7 +11,7 @@ use Rattle.form_words.specs.Words.{job_of}
 use Rattle.form_stmts.specs.Line.{PlacedLine}
 use Rattle.form_check.specs.Checking.{program}
 use Rattle.form_check.specs.Program.{Program}
-use Rattle.form_check.specs.Refusal as text
+use Rattle.form_right_side.specs.Refusal as text
 use Rattle.form_engine.specs.Outcome.{Outcome, IsJobOutcome, IsExpansionOutcome, AreLines, IsProgramOutcome, line_of, refused, refused_at}
 use Rattle.form_engine.proofs.Answered.{never_missing, never_too_long}
 use Rattle.form_engine.proofs.Concluded.{Decided}

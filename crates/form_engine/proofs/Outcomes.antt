@@ -17,7 +17,7 @@ use Rattle.form_stmts.specs.Program.{IsProgram, IsRefused}
 use Rattle.form_check.specs.declared.checked.Checked.{Checked}
 use Rattle.form_check.specs.Checking.{program}
 use Rattle.form_check.specs.Program.{Program}
-use Rattle.form_check.specs.Refusal as text
+use Rattle.form_right_side.specs.Refusal as text
 use Rattle.form_check.specs.Sound.{IsSound}
 use Rattle.form_expand.specs.declared.stored.Stored.{Stored}
 use Rattle.form_module.specs.Module.{Refusal, IsModuleOutcome}

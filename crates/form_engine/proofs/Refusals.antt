@@ -14,7 +14,7 @@ use Rattle.form_names.specs.Names.{Entry}
 use Rattle.form_check.specs.declared.checked.Checked.{Checked}
 use Rattle.form_check.specs.Checking.{program}
 use Rattle.form_check.specs.Program.{Program}
-use Rattle.form_check.specs.Refusal as text
+use Rattle.form_right_side.specs.Refusal as text
 use Rattle.form_expand.specs.declared.stored.Stored.{Stored}
 use Rattle.form_engine.specs.Outcome.{Outcome, IsOutcome, IsJobOutcome, IsExpansionOutcome, AreLines, AreCarriedOut, IsProgramOutcome, line_of, refused, refused_at}
 

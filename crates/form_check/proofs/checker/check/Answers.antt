@@ -5,8 +5,8 @@ use Rattle.std.specs.Vec.Iter.{into_iter_items}
 use Rattle.form_ast.specs.Lawful.{IsLawfulStatement}
 use Rattle.form_check.specs.Checker.{state_of}
 use Rattle.form_check.specs.Checking.{start, module_checked}
-use Rattle.form_check.specs.Refusal.{each}
-use Rattle.form_check.proofs.Loops.{each-first}
+use Rattle.form_right_side.specs.Refusal.{each}
+use Rattle.form_right_side.proofs.Loops.{each-first}
 use Rattle.form_check.proofs.Sound.{sound}
 use Rattle.form_check.proofs.checker.check.Goals as goal
 

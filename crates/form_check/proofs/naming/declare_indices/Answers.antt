@@ -1,8 +1,8 @@
 use Rattle.std.proofs.Common.{arith}
 use Rattle.std.proofs.lemmas.Result.{err_from_is_err_and}
 use Rattle.form_check.specs.Checking.{index}
-use Rattle.form_check.specs.Refusal.{each}
-use Rattle.form_check.proofs.Loops.{each-next, each-refused, each-end}
+use Rattle.form_right_side.specs.Refusal.{each}
+use Rattle.form_right_side.proofs.Loops.{each-next, each-refused, each-end}
 use Rattle.form_check.proofs.naming.declare_indices.Goals as goal
 
 pub loop-index-preserved : goal.loop-index-preserved

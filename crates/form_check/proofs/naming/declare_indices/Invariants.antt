@@ -1,7 +1,7 @@
 use Rattle.std.proofs.Common.{◌≡◌, ◌≤◌, drop, length}
 use Rattle.form_check.specs.Checker.{KeepsDimensions}
 use Rattle.form_check.specs.Checking.{index, most_names}
-use Rattle.form_check.specs.Refusal.{each}
+use Rattle.form_right_side.specs.Refusal.{each}
 use Rattle.form_check.proofs.naming.declare_indices.Given as goal
 
 -- what is left goes on from the names so far

@@ -1,8 +1,8 @@
 use Rattle.std.proofs.Common.{arith, Ok, ap}
 use Rattle.std.proofs.lemmas.Result.{err_from_is_err_and}
 use Rattle.form_check.specs.Checking.{named, kind_declared, declared}
-use Rattle.form_check.specs.Refusal.{◌>>=◌, each}
-use Rattle.form_check.proofs.Loops.{IsRefused-before, each-next, each-refused, each-end}
+use Rattle.form_right_side.specs.Refusal.{◌>>=◌, each}
+use Rattle.form_right_side.proofs.Loops.{IsRefused-before, each-next, each-refused, each-end}
 use Rattle.form_check.proofs.naming.declare_names.Goals as goal
 
 pub loop-spelled-preserved : goal.loop-spelled-preserved

@@ -1,7 +1,7 @@
 use Rattle.std.proofs.Common.{arith}
 use Rattle.std.proofs.lemmas.Result.{err_from_is_err_and}
 use Rattle.form_check.specs.Checking.{expression, expressions}
-use Rattle.form_check.proofs.Loops.{listed-start, listed-next, listed-refused, listed-end}
+use Rattle.form_right_side.proofs.Loops.{listed-start, listed-next, listed-refused, listed-end}
 use Rattle.form_check.proofs.naming.expressions_of.Goals as goal
 
 pub loop-spelled-init : goal.loop-spelled-init

@@ -3,10 +3,10 @@ use Rattle.std.proofs.lemmas.Result.{err_from_is_err_and}
 use Rattle.form_names.specs.Names.{lookup}
 use Rattle.form_check.specs.Checker.{state_of}
 use Rattle.form_check.specs.Checking.{is_defined_again, with_statement}
-use Rattle.form_check.specs.Marks.{stands_in}
+use Rattle.form_right_side.specs.Marks.{stands_in}
 use Rattle.form_check.specs.Standing.{stands}
-use Rattle.form_check.specs.RightSide.{right_side}
-use Rattle.form_check.specs.Refusal.{IsRefused}
+use Rattle.form_right_side.specs.RightSide.{right_side}
+use Rattle.form_right_side.specs.Refusal.{IsRefused}
 use Rattle.form_check.specs.declared.checked.Checked.TheVariants.{Local}
 use Rattle.form_check.proofs.Defining.{definition-Ok, definition-refused, Gives-kept}
 use Rattle.form_check.proofs.checker.Checker.define.Goals as goal

@@ -4,8 +4,8 @@ use Rattle.std.specs.Vec.Iter.{into_iter_items}
 use Rattle.form_ast.specs.Lawful.{IsLawfulStatement}
 use Rattle.form_check.specs.Checker.{state_of}
 use Rattle.form_check.specs.Checking.{statement}
-use Rattle.form_check.specs.Refusal.{each}
-use Rattle.form_check.proofs.Loops.{each-first}
+use Rattle.form_right_side.specs.Refusal.{each}
+use Rattle.form_right_side.proofs.Loops.{each-first}
 use Rattle.form_check.proofs.checker.Checker.module.Goals as goal
 
 pub loop-placed-preserved : goal.loop-placed-preserved

@@ -3,7 +3,8 @@ use Rattle.std.specs.Vec.Iter.{into_iter_items}
 use Rattle.form_ast.specs.Lawful.{IsLawfulStatement}
 use Rattle.form_check.specs.Checker.{state_of, IsConsistent}
 use Rattle.form_check.specs.Checking.{statement}
-use Rattle.form_check.specs.Refusal.{each}
+use Rattle.form_right_side.specs.Marks.{current_in}
+use Rattle.form_right_side.specs.Refusal.{each}
 use Rattle.form_check.proofs.checker.Checker.module.Given as goal
 
 -- what is left goes on from the state so far
@@ -11,6 +12,6 @@ abbrev pub invariant-loop-placed : goal.invariant-loop-placed
 invariant-loop-placed l = record {
   consistent : IsConsistent l.self;
   lawful : All (λ placed. IsLawfulStatement placed.statement) (into_iter_items l.placed-iterator);
-  current : l.self.standing.current ≡ l.fn.self.standing.current;
+  current : current_in l.self.standing ≡ current_in l.fn.self.standing;
   checked : each statement (state_of l.fn.self) l.fn.written ≡ each statement (state_of l.self) (into_iter_items l.placed-iterator);
 }

@@ -5,4 +5,4 @@ pub keep-requires-clause-marks : goal.keep-requires-clause-marks
 keep-requires-clause-marks c =
     let old = c.args.self.now in
     let drops = c.in_ok-drop_selected-in-Drop.ensures in
-    marks-dropped old.standing c.drop_selected.new.self old.modules.items old.statements.items c.in_ok-which-in-Drop.which c.requires.consistent.marks drops.lawful drops.stands drops.defines drops.stays
+    marks-dropped old.standing c.drop_selected.new.standing old.modules.items old.statements.items c.in_ok-which-in-Drop.which c.requires.consistent.marks drops.lawful drops.stands drops.defines drops.stays

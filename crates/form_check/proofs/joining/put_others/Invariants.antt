@@ -1,7 +1,0 @@
-use Rattle.std.proofs.Common.{◌≡◌, ◌++◌, replicate}
-use Rattle.form_check.specs.declared.joining.Factor.TheVariants.{Other}
-use Rattle.form_check.proofs.joining.put_others.Given as goal
-
--- so many are there so far
-abbrev pub invariant-loop-made : goal.invariant-loop-made
-invariant-loop-made l = l.out.items ≡ l.fn.out.items ++ replicate l._made (Other l.pieces)

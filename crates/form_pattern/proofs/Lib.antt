@@ -1,0 +1,9 @@
+pub mod Joined
+pub mod KnownNames
+pub mod LawfulElements
+pub mod PatternFronts
+pub mod PatternPutting
+pub mod PatternSkips
+pub mod PatternStarts
+pub mod PatternWalked
+pub mod PatternWhole

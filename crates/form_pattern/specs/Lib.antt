@@ -1,0 +1,4 @@
+pub mod Joining
+pub mod Pattern
+pub mod PatternWalking
+pub mod Sets

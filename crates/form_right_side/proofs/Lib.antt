@@ -1,0 +1,9 @@
+pub mod Bare
+pub mod Binding
+pub mod Fronts
+pub mod Loops
+pub mod MisplacedNames
+pub mod Parting
+pub mod ShortWays
+pub mod Walked
+pub mod Whole

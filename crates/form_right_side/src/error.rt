@@ -1,0 +1,32 @@
+use form_base::{Cause, Spot};
+use std::alloc::{AllocError, AllocFailed};
+
+/// Why a program wasn't checked to its end.
+#[derive(Debug, Drop)]
+pub enum CheckError {
+    /// It is refused, at this spot.
+    Refused(Cause, Spot),
+    Memory,
+}
+
+impl From<AllocError> for CheckError {
+    ghost use Rattle.std.specs.Prelude.{◌≡◌};
+    ghost use Rattle.form_right_side.specs.declared.error.CheckError.TheVariants.{Memory};
+
+    ghost from_gives = { λ _ error. error ≡ Memory };
+
+    fn from(_: AllocError) -> Self {
+        CheckError::Memory
+    }
+}
+
+impl<T: Drop> From<AllocFailed<T>> for CheckError {
+    ghost use Rattle.std.specs.Prelude.{◌≡◌};
+    ghost use Rattle.form_right_side.specs.declared.error.CheckError.TheVariants.{Memory};
+
+    ghost from_gives = { λ _ error. error ≡ Memory };
+
+    fn from(_: AllocFailed<T>) -> Self {
+        CheckError::Memory
+    }
+}
