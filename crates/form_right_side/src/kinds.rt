@@ -43,14 +43,14 @@ fn wrong_built_in(alloc: Global, name: &str, spot: Spot) -> Result<CheckError, A
     Ok(CheckError::Refused(Cause::WrongKind(name), spot))
 }
 
-/// The same of `d_`.
+/// A refusal of `d_` where it can't stand.
 pub fn wrong_delta(alloc: Global, spot: Spot) -> Result<CheckError, AllocError>
     ensures { IfOk result (λ e. e ≡ error_of (wrong (delta_at spot))) }
 {
     wrong_built_in(alloc, "d_", spot)
 }
 
-/// The same of a name that is declared, or of `i_`.
+/// A refusal of a name that is declared, or of `i_`, where it can't stand.
 pub fn wrong_name(alloc: Global, named: &Named) -> Result<CheckError, AllocError>
     ensures { IfOk result (λ e. e ≡ error_of (wrong (spelled_of named.now))) }
 {

@@ -31,12 +31,14 @@ impl Model for Known {
 impl Known {
     ghost use Rattle.form_right_side.specs.RightSide.{field_number as number_of_field, is_wildcard as is_wildcard_of};
 
+    /// What a right side knows in which these are wildcards and fields.
     pub fn new(wildcards: Vec<Id>, fields: Vec<Name>) -> Known
         ensures { result ≡ record { wildcards = wildcards.items; fields = fields.items } }
     {
         Known { wildcards, fields }
     }
 
+    /// Whether the name is a wildcard.
     pub fn is_wildcard(&self, id: Id) -> bool
         ensures { result ≡ is_wildcard_of self.now id }
     {
