@@ -325,7 +325,7 @@ fn alone_in(alloc: Global, names: &Names, list: &[Piece]) -> Result<Option<Patte
 }
 
 /// A refusal of the first name in an argument of a vector, or of the vector where it has none.
-#[tactic(auto, unfolding(crate::specs::RightSide::first_misplaced))]
+#[tactic(auto, unfolding(form_right_side::specs::RightSide::first_misplaced))]
 fn misplaced_in(
     alloc: Global,
     names: &Names,
