@@ -82,14 +82,14 @@ impl<'a> CompiledModule<'a> {
         Outputs::new(alloc, self, item)
     }
 
-    pub fn limit(&self) -> u64
+    pub(crate) fn limit(&self) -> u64
         ensures { result ≡ self.now.limit }
     {
         self.limit
     }
 
     /// A statement by its place.
-    pub fn group(&self, place: usize) -> Option<&Group<'a>>
+    pub(crate) fn group(&self, place: usize) -> Option<&Group<'a>>
         ensures rewritings { option_map (λ g. rewritings_of g.now) result ≡ slice_get self.now.groups place }
         ensures ready { IfSome result (λ g. AreReady self.now.limit g.now) }
         ensures room { OnSome result (place + 1 < 2 ^ 64) }
@@ -98,7 +98,7 @@ impl<'a> CompiledModule<'a> {
     }
 
     /// What names stand for where nothing is bound.
-    pub fn nothing(&self) -> &Standing
+    pub(crate) fn nothing(&self) -> &Standing
         ensures { result.now ≡ no_meanings }
     {
         &self.nothing

@@ -64,7 +64,11 @@ pub struct Outputs<'a> {
 
 impl<'a> Outputs<'a> {
     #[tactic(auto, unfolding(crate::specs::Left::outputs_left))]
-    pub fn new(alloc: Global, compiled: &'a CompiledModule<'a>, item: Monomial) -> Outputs<'a>
+    pub(crate) fn new(
+        alloc: Global,
+        compiled: &'a CompiledModule<'a>,
+        item: Monomial,
+    ) -> Outputs<'a>
         ensures groups { groups_in result ≡ compiled.now.groups }
         ensures left { (pss : List (List AsTrees)) → outputs_left result pss ≡ outputs_of compiled.now.limit pss item }
     {
