@@ -84,13 +84,42 @@ LOOP = plain("Symbols x,y;", "Local F = 0", "#do i=1,40000", '#define n "{`i\'%7
 
 
 def patterns(file):
-    """25,000 terms of ten factors each, two of them functions, under three ids with wildcards."""
+    """25,000 terms of ten factors each, four of them functions, under three ids with wildcards."""
     seeded = random.Random(7)
     file.write("Symbols x,y,z,a,b,c,n,m;\nCFunctions f,g,h;\nLocal F =\n")
     for _ in range(25_000):
         powers = "*".join(f"{it}^{seeded.randrange(1, 9)}" for it in "xyzabc")
         file.write(f"  + {seeded.randrange(1, 99)}*{powers}*f({seeded.randrange(1, 40)},x)*f({seeded.randrange(1, 40)},y)*g({seeded.randrange(1, 40)},a+b)*g({seeded.randrange(1, 40)},z)\n")
     plain(";", "id f(n?,x) = h(n+1);", "id g(n?,z) = g(n) + n;", "id x^n?*y^m? = h(n,m);", ".end")(file)
+
+
+def fields(file):
+    """20,000 terms with a function of eight symbols and one of one, under an id that looks for the one among the eight."""
+    seeded = random.Random(11)
+    file.write("Symbols a,b,c,d,e,x,y,z;\nCFunctions f,g,h;\nLocal F =\n")
+    for term in range(20_000):
+        arguments = ",".join(seeded.choice("abcdexyz") for _ in range(8))
+        file.write(f"  + {term + 1}*a^{seeded.randrange(1, 9)}*f({arguments})*g({seeded.choice('abcdexyz')})\n")
+    plain(";", "id f(?a,x?,?b)*g(x?) = h(?a,?b,x);", ".end")(file)
+
+
+def words(file):
+    """20,000 words of eight functions that don't commute, under six ids that exchange two of them."""
+    seeded = random.Random(12)
+    file.write("Symbols x;\nFunctions A,B,C;\nLocal F =\n")
+    for term in range(20_000):
+        file.write(f"  + x^{term + 1}*{'*'.join(seeded.choice('ABC') for _ in range(8))}\n")
+    plain(";", *["id A*B = B*A + 1;"] * 6, ".end")(file)
+
+
+def dot_products(file):
+    """10,000 terms of powers of four dot products, under ids that put sums and a symbol in their places."""
+    seeded = random.Random(13)
+    file.write("Symbols x,y;\nVectors p,q,k,l,r;\nLocal F =\n")
+    for term in range(10_000):
+        powers = "*".join(f"{it}^{seeded.randrange(1, 4)}" for it in ("p.q", "k.l", "p.k"))
+        file.write(f"  + {term + 1}*x^{term + 1}*{powers}*q.r^2\n")
+    plain(";", "id p.q = p.k - q.k;", "id k.l^2 = x;", "id p.k = q.r + l.r;", ".end")(file)
 
 
 ALL = [
@@ -103,4 +132,7 @@ ALL = [
     Program("functions", "a product of ten sums of functions with arguments, and of words", 4 ** 5 * 3 ** 5, functions),
     Program("loop", "a loop of the preprocessor with 40,000 turns", 40_000, LOOP),
     Program("patterns", "three ids with wildcards over 25,000 terms of ten factors", None, patterns),
+    Program("fields", "an id with two fields over 20,000 terms with functions of eight arguments", None, fields),
+    Program("words", "six ids that exchange two functions in 20,000 words of eight", None, words),
+    Program("dot_products", "three ids that put sums in the place of dot products in 10,000 terms", None, dot_products),
 ]
