@@ -3,7 +3,7 @@ ghost use Rattle.std.specs.Prelude.{◌≡◌, take, drop, length, IfOk};
 ghost use Rattle.std.specs.List.{list_any};
 ghost use Rattle.form_pattern.specs.PatternWalking as walking;
 ghost use Rattle.form_right_side.specs.Walking as Walking;
-ghost use Rattle.form_right_side.specs.Refusal.{Gives, error_of};
+ghost use Rattle.form_right_side.specs.Refusal.{Gives, GivesWithin, error_of};
 ghost use Rattle.form_right_side.specs.RightSide.{first_misplaced, wrong, spelled_of};
 
 use crate::joining::{Pieces, Raw, begun, ended};
@@ -12,9 +12,9 @@ use form_ast::{Named, Piece, Spelled};
 use form_base::Id;
 use form_names::{Kind, Names};
 use form_right_side::{
-    CheckError, End, LARGEST_EXPONENT, LARGEST_POWER, Power, alone_end, entry_end, exponent, found,
-    is_inverted, misplaced, power_at, size_of, symbol_named, vector, wrong_delta, wrong_kind,
-    wrong_name,
+    CheckError, End, LARGEST_EXPONENT, LARGEST_POWER, PastLimit, Power, alone_end, entry_end,
+    exponent, found, is_inverted, misplaced, power_at, size_of, symbol_named, vector, wrong_delta,
+    wrong_kind, wrong_name,
 };
 use form_tree::{IndexName, Name, PatternPiece};
 use std::alloc::{AllocError, Global};
@@ -80,8 +80,8 @@ pub fn marked(alloc: Global, names: &Names, rest: &[Piece], id: Id) -> Result<Na
     }
 }
 
-fn symbol_put(name: Name, power: Option<Power>) -> Result<Raw, CheckError>
-    ensures { Gives (λ r. r) result (walking.symbol_put power name) }
+fn symbol_put(name: Name, power: Option<Power>) -> Result<Raw, PastLimit>
+    ensures { GivesWithin (λ r. r) result (walking.symbol_put power name) }
 {
     let size = size_of(power, LARGEST_EXPONENT)?;
     Ok(Raw::Symbol(name, i64::from(exponent(false, power, size))))
@@ -127,10 +127,10 @@ fn name_put(alloc: Global, names: &Names, named: &Named, rest: &[Piece]) -> Resu
     };
     let found = found(alloc, names, spelled)?;
     match found.kind {
-        Kind::Symbol => symbol_put(
-            marked(alloc, names, rest, found.id)?,
-            power_at(behind_mark(rest)),
-        ),
+        Kind::Symbol => {
+            let name = marked(alloc, names, rest, found.id)?;
+            Ok(symbol_put(name, power_at(behind_mark(rest)))?)
+        }
         Kind::Function => lone_function_put(alloc, names, spelled, rest, found.id, false),
         Kind::CommutingFunction => lone_function_put(alloc, names, spelled, rest, found.id, true),
         _ => Err(wrong_kind(alloc, spelled)?),

@@ -1,13 +1,13 @@
 //! The elements of sets, and what wildcards are restricted to.
 ghost use Rattle.std.specs.Prelude.{◌≡◌, List, [], ◌∷◌, IfOk};
-ghost use Rattle.form_right_side.specs.Refusal.{Gives, listed};
+ghost use Rattle.form_right_side.specs.Refusal.{Gives, GivesWithin, listed};
 ghost use Rattle.form_pattern.specs.Sets as definition;
 ghost use Rattle.form_names.specs.Names.{AreElements, Entry, is_alike as is_alike_kind, is_element_kind as is_kind_of_element};
 
 use form_ast::{Restriction, Sign, SignedNumber, Spelled, WrittenElements};
 use form_base::Id;
 use form_names::{Elements, Ids, Kind, Names, Numbers};
-use form_right_side::{CheckError, Found, LARGEST_NUMBER, found, within, wrong_kind};
+use form_right_side::{CheckError, Found, LARGEST_NUMBER, PastLimit, found, within, wrong_kind};
 use form_tree::Sets;
 use std::alloc::{AllocError, Global};
 
@@ -105,8 +105,8 @@ fn name_elements(alloc: Global, names: &Names, list: &[Spelled]) -> Result<Eleme
 }
 
 /// A number as an element.
-fn number_element(number: &SignedNumber) -> Result<i128, CheckError>
-    ensures { Gives (λ z. z) result (definition.number_element number.now) }
+fn number_element(number: &SignedNumber) -> Result<i128, PastLimit>
+    ensures { GivesWithin (λ z. z) result (definition.number_element number.now) }
 {
     let SignedNumber { sign, number } = number;
     let value = within(number, LARGEST_NUMBER)?;

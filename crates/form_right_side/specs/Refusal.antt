@@ -1,9 +1,11 @@
 -- Why a text is refused, and where.
 use Rattle.std.specs.Prelude.{◌≡◌, Result, Ok, Err, List, [], ◌∷◌}
 use Rattle.form_base.specs.declared.cause.Cause.{Cause}
+use Rattle.form_base.specs.declared.cause.Cause.TheVariants.{NumberRange}
 use Rattle.form_base.specs.declared.spot.Spot.{Spot}
 use Rattle.form_right_side.specs.declared.error.CheckError.{CheckError}
 use Rattle.form_right_side.specs.declared.error.CheckError.TheVariants.{Refused, Memory}
+use Rattle.form_right_side.specs.declared.error.PastLimit.{PastLimit}
 
 -- a cause, and the token at which it shows
 pub record Refusal : Type 0 where
@@ -41,3 +43,8 @@ IsRefused Memory checked = Unit {0}
 abbrev pub Gives : {X Y : Type 0} → (X → Y) → Result X CheckError → Result Y Refusal → Type 0
 Gives view (Ok x) checked = checked ≡ Ok (view x)
 Gives view (Err e) checked = IsRefused e checked
+
+-- the same of a function that takes no memory, where nothing is refused but a number past its limit
+abbrev pub GivesWithin : {X Y : Type 0} → (X → Y) → Result X PastLimit → Result Y Refusal → Type 0
+GivesWithin view (Ok x) checked = checked ≡ Ok (view x)
+GivesWithin view (Err past) checked = checked ≡ refused NumberRange past.spot

@@ -15,7 +15,7 @@ use crate::powers::{
     LARGEST_EXPONENT, LARGEST_NUMBER, LARGEST_POWER, Power, exponent, is_inverted, is_over,
     link_of, number_exponent, size_of, within,
 };
-use crate::raised::{exponent_of, name_power, number_base, symbol_base, symbol_named};
+use crate::raised::{exponent_of, name_power, symbol_base, symbol_named};
 use crate::resolved::Found;
 use crate::standing::Standing;
 use crate::walk::{Walk, put};
@@ -42,7 +42,8 @@ impl Walk {
         let Some((sign, by)) = name_power(rest) else {
             return self.number_to(link, number, power_at(rest));
         };
-        let base = number_base(number)?;
+        let value = within(number, LARGEST_NUMBER)?;
+        let base = Base::Number(Natural::new(value));
         self.raise(alloc, names, link, base, sign, by)
     }
 
@@ -108,7 +109,7 @@ impl Walk {
         if is_inverted(is_over(link), power) {
             return Err(wrong_name(alloc, named)?);
         }
-        size_of(power, LARGEST_POWER)
+        Ok(size_of(power, LARGEST_POWER)?)
     }
 
     /// A function without arguments.

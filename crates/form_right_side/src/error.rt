@@ -9,6 +9,24 @@ pub enum CheckError {
     Memory,
 }
 
+/// A number is past its limit, at this spot.
+#[derive(Clone, Copy, Debug)]
+pub struct PastLimit {
+    pub spot: Spot,
+}
+
+impl From<PastLimit> for CheckError {
+    ghost use Rattle.std.specs.Prelude.{◌≡◌};
+    ghost use Rattle.form_base.specs.declared.cause.Cause.TheVariants.{NumberRange};
+    ghost use Rattle.form_right_side.specs.declared.error.CheckError.TheVariants.{Refused};
+
+    ghost from_gives = { λ past error. error ≡ Refused NumberRange past.spot };
+
+    fn from(past: PastLimit) -> Self {
+        CheckError::Refused(Cause::NumberRange, past.spot)
+    }
+}
+
 impl From<AllocError> for CheckError {
     ghost use Rattle.std.specs.Prelude.{◌≡◌};
     ghost use Rattle.form_right_side.specs.declared.error.CheckError.TheVariants.{Memory};

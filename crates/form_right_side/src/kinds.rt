@@ -3,13 +3,13 @@ ghost use Rattle.std.specs.Prelude.{◌≡◌, Some, Ok, IfOk, IfSome, is_some};
 ghost use Rattle.form_base.specs.declared.cause.Cause.TheVariants.{WrongKind, Undeclared};
 ghost use Rattle.form_names.specs.Names.{lookup, kind_at};
 ghost use Rattle.form_right_side.specs.Plain.{is_symbol, is_plain_call};
-ghost use Rattle.form_right_side.specs.Refusal.{Gives, error_of};
+ghost use Rattle.form_right_side.specs.Refusal.{Gives, GivesWithin, error_of};
 ghost use Rattle.form_right_side.specs.RightSide.{spelled_of, wrong, delta_at, misplaced as misplaced_name, found as found_of, vector as vector_named, named_end as end_named, fixed_end as end_fixed, head as head_named, lone_named};
 ghost use Rattle.form_right_side.specs.Walking.{alone_piece, entry_piece, alone_end as end_alone, IsLone};
 
-use crate::CheckError;
 use crate::powers::within;
 use crate::resolved::{End, Found, Head};
+use crate::{CheckError, PastLimit};
 use form_ast::{Link, Named, Piece, Spelled};
 use form_base::{Cause, Id, Name, Spot};
 use form_names::{Kind, Names};
@@ -155,8 +155,8 @@ fn named_end(alloc: Global, names: &Names, named: &Named) -> Result<End, CheckEr
 }
 
 /// A fixed index.
-fn fixed_end(number: &Number) -> Result<End, CheckError>
-    ensures { Gives (λ end. end) result (end_fixed number.now) }
+fn fixed_end(number: &Number) -> Result<End, PastLimit>
+    ensures { GivesWithin (λ end. end) result (end_fixed number.now) }
 {
     let value = within(number, u128::from(LARGEST_INDEX))?;
     Ok(End::Fixed(value as u32))

@@ -17,7 +17,7 @@ mod standing;
 mod walk;
 
 pub use ahead::{ends_argument, power_at};
-pub use error::CheckError;
+pub use error::{CheckError, PastLimit};
 pub use kinds::{
     alone_end, copy_of, entry_end, found, head, misplaced, vector, wrong_delta, wrong_kind,
     wrong_name,

@@ -1,12 +1,11 @@
 //! Powers and exponents.
 ghost use Rattle.std.specs.Prelude.{◌≡◌, ◌<◌, ◌≤◌, ◌^◌};
-ghost use Rattle.form_right_side.specs.Refusal.{Gives};
+ghost use Rattle.form_right_side.specs.Refusal.{GivesWithin};
 ghost use Rattle.form_right_side.specs.RightSide as definition;
 ghost use Rattle.form_right_side.specs.Walking as walking;
 
-use crate::CheckError;
+use crate::PastLimit;
 use form_ast::{Link, Sign};
-use form_base::Cause;
 use form_number::{Capped, Number};
 
 /// The largest number, 2^127-1.
@@ -42,25 +41,29 @@ pub fn is_over(link: Link) -> bool
 }
 
 /// The value of a number of at most so much.
-pub fn within(number: &Number, most: u128) -> Result<u128, CheckError>
+pub fn within(number: &Number, most: u128) -> Result<u128, PastLimit>
     requires { most < 2 ^ 127 }
-    ensures { Gives (λ value. value) result (definition.value_within most number.now) }
+    ensures { GivesWithin (λ value. value) result (definition.value_within most number.now) }
 {
     let Some(value) = number.up_to(most) else {
-        return Err(CheckError::Refused(Cause::NumberRange, number.spot()));
+        return Err(PastLimit {
+            spot: number.spot(),
+        });
     };
     Ok(value)
 }
 
 /// The size of a power of at most so much: 1 where none is written.
-pub fn size_of(power: Option<Power>, most: u32) -> Result<u32, CheckError>
-    ensures { Gives (λ size. size) result (definition.size_within most power) }
+pub fn size_of(power: Option<Power>, most: u32) -> Result<u32, PastLimit>
+    ensures { GivesWithin (λ size. size) result (definition.size_within most power) }
 {
     let Some(power) = power else {
         return Ok(1);
     };
     if power.number.value > u128::from(most) {
-        return Err(CheckError::Refused(Cause::NumberRange, power.number.spot));
+        return Err(PastLimit {
+            spot: power.number.spot,
+        });
     }
     Ok(power.number.value as u32)
 }

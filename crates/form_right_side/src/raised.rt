@@ -9,14 +9,13 @@ use crate::CheckError;
 use crate::ahead::power_at;
 use crate::kinds::{found, wrong_kind, wrong_name};
 use crate::known::Known;
-use crate::powers::{LARGEST_NUMBER, LARGEST_POWER, size_of, within};
+use crate::powers::{LARGEST_POWER, size_of};
 use crate::resolved::{End, Linked};
 use form_ast::{Named, Piece, Sign};
 use form_base::Id;
 use form_names::{Kind, Names};
-use form_number::Number;
 use form_term::{Component, Index};
-use form_tree::{Base, Exponent, Natural, Piece as Closing};
+use form_tree::{Base, Exponent, Piece as Closing};
 use std::alloc::Global;
 
 /// The sign and the name of such a power, where a piece is one.
@@ -43,14 +42,6 @@ fn is_minus(sign: Option<Sign>) -> bool
     ensures { result ≡ definition.is_minus sign }
 {
     sign == Some(Sign::Minus)
-}
-
-/// A number as the base of such a power.
-pub fn number_base(number: &Number) -> Result<Base, CheckError>
-    ensures { Gives walking.base_of result (definition.number_base number.now) }
-{
-    let value = within(number, LARGEST_NUMBER)?;
-    Ok(Base::Number(Natural::new(value)))
 }
 
 /// The name of a symbol.
