@@ -3,7 +3,7 @@ use form_number::WholeNumber;
 
 /// What is joined with factors of the same key: a name alone, or a dot product of two, in either order. A wildcard is
 /// joined with wildcards alone.
-#[derive(Debug, Drop, PartialEq, Eq)]
+#[derive(Debug, Drop)]
 pub enum Key {
     /// How it is spelled, and whether it is a wildcard.
     Alone(Name, bool),

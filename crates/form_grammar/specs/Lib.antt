@@ -1,3 +1,4 @@
+pub mod Balance
 pub mod Effect
 pub mod Grammar
 pub mod Parts

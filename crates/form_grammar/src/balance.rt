@@ -1,8 +1,8 @@
 //! What remains of a product once equal factors are joined.
-ghost use Rattle.std.specs.Prelude.{◌≡◌, true, false, List, sum_by, count_by, IfOk, MatchOption};
+ghost use Rattle.std.specs.Prelude.{◌≡◌, sum_by, count_by, IfOk, MatchOption};
 ghost use Rattle.std.specs.List.{list_any, list_all};
-ghost use Rattle.form_ast.specs.declared.weight.Weight.{Weight};
 ghost use Rattle.form_ast.specs.Patterns.{is_same_name as is_same_name_of, is_same_key as is_same_key_of, size_at as size_at_of, is_cancelled as is_cancelled_of, stays as stays_in, has_name as has_name_of, stands_alone as stands_alone_in, are_balanced as are_balanced_of};
+ghost use Rattle.form_grammar.specs.Balance.{has_same_key as has_same_key_as, stays_first as stays_first_in};
 
 use form_ast::{Key, Weight};
 use form_base::Name;
@@ -106,36 +106,33 @@ fn stands_alone(weights: &[Weight], weight: &Weight) -> bool
     }
 }
 
-/// Whether two keys are the same to the letter.
-fn is_that_key(key: &Key, other: &Key) -> bool
-    ensures { result ≡ true → key.now ≡ other.now }
-{
-    key == other
-}
-
-/// Whether a factor has the key of another one, so that both remain or none.
-fn has_key_of(weight: &Weight, other: &Weight) -> bool
-    ensures { result ≡ true → (ws : List Weight) → stays_in ws weight.now ≡ stays_in ws other.now }
+/// Whether both are powers of one key, so that both remain or none does.
+fn has_same_key(weight: &Weight, other: &Weight) -> bool
+    ensures { result ≡ has_same_key_as weight.now other.now }
 {
     match (weight, other) {
-        (Weight::Keyed(key, _, _), Weight::Keyed(other_key, _, _)) => is_that_key(key, other_key),
+        (Weight::Keyed(key, _, _), Weight::Keyed(other_key, _, _)) => is_same_key(key, other_key),
         _ => false,
     }
 }
 
-/// Whether a factor remains, where none of those before it does: the powers of a key are added up once.
-fn stays_behind(
+/// Whether one of those before has its key.
+fn is_repeated(before: &[Weight], weight: &Weight) -> bool
+    ensures { result ≡ list_any (has_same_key_as weight.now) before.now }
+{
+    before.iter().any(|other| has_same_key(weight, other))
+}
+
+/// Whether a factor remains and none before it has its key: the powers of a key are added up once.
+fn stays_first(
     alloc: Global,
     weights: &[Weight],
     before: &[Weight],
     weight: &Weight,
 ) -> Result<bool, AllocError>
-    ensures { IfOk result (λ remains. list_any (stays_in weights.now) before.now ≡ false → remains ≡ stays_in weights.now weight.now) }
+    ensures { IfOk result (λ remains. remains ≡ stays_first_in weights.now before.now weight.now) }
 {
-    if before.iter().any(|other| has_key_of(weight, other)) {
-        return Ok(false);
-    }
-    stays(alloc, weights, weight)
+    Ok(!is_repeated(before, weight) && stays(alloc, weights, weight)?)
 }
 
 /// Whether a factor remains.
@@ -143,7 +140,7 @@ fn any_stays(alloc: Global, weights: &[Weight]) -> Result<bool, AllocError>
     ensures { IfOk result (λ any. any ≡ list_any (stays_in weights.now) weights.now) }
 {
     for place in 0..weights.len() {
-        if stays_behind(alloc, weights, &weights[..place], &weights[place])? {
+        if stays_first(alloc, weights, &weights[..place], &weights[place])? {
             return Ok(true);
         }
     }
