@@ -1,5 +1,5 @@
 -- What a list of names drops.
-use Rattle.std.proofs.Common.{◌≡◌, ℕ, ◌+◌, ◌<◌, ◌≤◌, Bool, true, false, ◌==◌, ◌&&◌, ◌||◌, not, List, [], ◌∷◌, ◌++◌, length, get_or, drop, refl, sym, ap, ◌∙◌}
+use Rattle.std.proofs.Common.{◌≡◌, ℕ, zero, suc, ◌+◌, ◌<◌, ◌≤◌, Bool, true, false, ◌==◌, ◌&&◌, ◌||◌, not, List, [], ◌∷◌, ◌++◌, length, get_or, drop, refl, sym, ap, ◌∙◌}
 use Rattle.std.specs.List.{list_any}
 use Rattle.std.proofs.lemmas.List.{drop_all}
 use Rattle.std.proofs.lemmas.List.Folds.{list_any-append}
@@ -31,6 +31,20 @@ stays-next all stays after ids i id e within is invariant drops =
 pub stays-end : (all stays : Bool) (ids : List ℕ) (i e : ℕ) → length ids ≤ i → all ≡ (stays && not (list_any (λ id. id == e) (drop i ids))) → stays ≡ all
 stays-end all stays ids i e past invariant =
     sym (invariant ∙ ap (λ left. stays && not (list_any (λ id. id == e) left)) (drop_all i ids past) ∙ and-not-false stays)
+
+right-false : (a b : Bool) → (a || b) ≡ false → b ≡ false
+right-false true b is = cc
+right-false false b is = is
+
+none-left : (e : ℕ) (ids : List ℕ) (i : ℕ) → list_any (λ id. id == e) ids ≡ false → list_any (λ id. id == e) (drop i ids) ≡ false
+none-left e ids zero none = none
+none-left e [] (suc i) none = none
+none-left e (id ∷ ids) (suc i) none = none-left e ids i (right-false (id == e) _ none)
+
+-- one that isn't among them, wherever they break off
+pub stays-other : (old stays : Bool) (ids : List ℕ) (i e : ℕ) → list_any (λ id. id == e) ids ≡ false → (old && not (list_any (λ id. id == e) ids)) ≡ (stays && not (list_any (λ id. id == e) (drop i ids))) → stays ≡ old
+stays-other old stays ids i e none invariant =
+    sym (and-not-false stays) ∙ ap (λ b. stays && not b) (sym (none-left e ids i none)) ∙ sym invariant ∙ ap (λ b. old && not b) none ∙ and-not-false old
 
 or-false : (b : Bool) → (b || false) ≡ b
 or-false true = refl

@@ -1,8 +1,6 @@
 -- Names are only added: what stands keeps its kind.
-use Rattle.std.proofs.Common.{◌≡◌, ℕ, zero, suc, Bool, true, false, List, [], ◌∷◌, ◌++◌, length, Option, Some, None, Result, Ok, Err, refl, ap, subst, ◌∙◌, if◌then◌else◌, ◌==◌}
+use Rattle.std.proofs.Common.{◌≡◌, ℕ, zero, suc, Bool, true, false, List, [], ◌∷◌, ◌++◌, length, take, Option, Some, None, Result, Ok, Err, refl, sym, ap, subst, ◌∙◌, if◌then◌else◌, ◌==◌}
 use Rattle.std.proofs.lemmas.Bool.{eqb-true}
-use Rattle.form_base.specs.declared.cause.Cause.{Cause}
-use Rattle.form_base.specs.declared.spot.Spot.{Spot}
 use Rattle.form_names.specs.declared.kind.Kind.{Kind}
 use Rattle.form_names.specs.declared.kind.Kind.TheVariants.{Symbol, Vector, Index, Function, CommutingFunction, Expression, Set}
 use Rattle.form_names.specs.declared.kind.Dimension.{Dimension}
@@ -13,10 +11,10 @@ use Rattle.form_ast.specs.declared.expr.Spelled.{Spelled}
 use Rattle.form_ast.specs.declared.statement.WrittenElements.{WrittenElements}
 use Rattle.form_ast.specs.declared.index_list.SpelledIndex.{SpelledIndex}
 use Rattle.form_right_side.proofs.Binding.{bind-Ok, else-Ok, ok_same}
-use Rattle.form_check.specs.Checker.{Keeps, KeepsDimensions}
+use Rattle.form_check.specs.Checker.{Keeps, KeepsDimensions, AreLeftByFront}
 use Rattle.form_check.specs.Checking.{declared, declared_once, named, dimension_or, is_past_limit, index_with, index, set_once, set_with, set}
 use Rattle.form_pattern.specs.Sets.{elements as checked_elements}
-use Rattle.form_right_side.specs.Refusal.{Refusal, refused, ◌>>=◌, each}
+use Rattle.form_right_side.specs.Refusal.{Refusal, each}
 
 -- ---- names
 
@@ -192,3 +190,7 @@ dimension-kept old new (dimensions.Symbol id) keeps h = keeps id Symbol h
 -- a declaration keeps what are dimensions
 pub declare_keeps : (names new : List Entry) (name : List ℕ) (kind : Kind) (id : ℕ) → declare names name kind ≡ Some (id, new) → KeepsDimensions names new
 declare_keeps names new name kind id is = λ d h. dimension-kept names new d (at_place (lookup names name) names new name kind id is).grows h
+
+-- a step that changes nothing leaves what the steps before it left
+pub left-by-front : {X : Type 0} (step : List Entry → X → Result (List Entry) Refusal) (old now new : List Entry) (items : List X) (count : ℕ) → each step old (take count items) ≡ Ok now → new ≡ now → AreLeftByFront X step old items new
+left-by-front step old now new items count is unchanged = record { count = count; left = is ∙ ap Ok (sym unchanged) }

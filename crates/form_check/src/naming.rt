@@ -1,9 +1,11 @@
 //! Names where they are declared, and where expressions are meant.
-ghost use Rattle.std.specs.Prelude.{◌≡◌, ◌<◌, ◌≤◌, false, List, Some, Result, length, IfOk, OnOk};
-ghost use Rattle.form_check.specs.Checker.{KeepsDimensions};
+ghost use Rattle.std.specs.Prelude.{◌≡◌, ◌<◌, ◌≤◌, false, List, Some, Result, length, IfOk, OnOk, OnErr};
+ghost use Rattle.form_check.specs.Checker.{KeepsDimensions, AreLeftByFront};
 ghost use Rattle.form_check.specs.Checking.{declared, named, kind_declared, dimension as dimension_written, dimension_or as dimension_or_of, index as index_declared, set as set_declared, set_once, set_with, is_past_limit, expression, expressions, selection, most_names};
 ghost use Rattle.form_right_side.specs.Refusal.{Refusal, Gives, IsRefused, each};
 ghost use Rattle.form_base.specs.declared.cause.Cause.TheVariants as causes;
+ghost use Rattle.form_ast.specs.declared.expr.Spelled as spelled_names;
+ghost use Rattle.form_ast.specs.declared.index_list.SpelledIndex as spelled_indices;
 ghost use Rattle.form_names.specs.declared.elements.Elements.{Elements};
 ghost use Rattle.form_names.specs.Names.{AreElements, Entry, declare_set as declare_set_of, lookup, IsDimension, IsKind};
 
@@ -21,7 +23,7 @@ const MOST_NAMES: u32 = 16_777_216;
 /// The largest dimension that is a number.
 const LARGEST_DIMENSION: u32 = 1_000;
 
-/// Declares a name.
+/// Declares a name. Where this is refused, and where memory is wanting, all stays as it was.
 #[tactic(auto, using(crate::proofs::Growing::declare_keeps))]
 pub fn declare(
     alloc: Global,
@@ -32,6 +34,7 @@ pub fn declare(
     requires room { length names.old ≤ most_names }
     requires lawful { IsKind names.old kind }
     ensures declared { Gives (λ id. (id, names.new)) result (declared names.old spelled.now kind) }
+    ensures unchanged { OnErr result (names.new ≡ names.old) }
     ensures room { OnOk result (length names.new ≤ most_names) }
     ensures keeps { OnOk result (KeepsDimensions names.old names.new) }
 {
@@ -48,7 +51,7 @@ pub fn declare(
     }
 }
 
-/// Declares names that are no indices.
+/// Declares names that are no indices, up to the first that is refused or for which memory is wanting.
 pub fn declare_names(
     alloc: Global,
     names: &mut Names,
@@ -57,6 +60,7 @@ pub fn declare_names(
 ) -> Result<(), CheckError>
     requires { length names.old ≤ most_names }
     ensures declared { Gives (λ _. names.new) result (each (named (kind_declared declared)) names.old list.now) }
+    ensures front { OnErr result (AreLeftByFront spelled_names.Spelled (named (kind_declared declared)) names.old list.now names.new) }
     ensures room { OnOk result (length names.new ≤ most_names) }
     ensures keeps { OnOk result (KeepsDimensions names.old names.new) }
 {
@@ -151,7 +155,7 @@ fn declare_again(
     Ok(())
 }
 
-/// Declares an index.
+/// Declares an index. Where this is refused, and where memory is wanting, all stays as it was.
 fn declare_index(
     alloc: Global,
     names: &mut Names,
@@ -161,6 +165,7 @@ fn declare_index(
     requires room { length names.old ≤ most_names }
     requires lawful { IsDimension names.old default.now }
     ensures declared { Gives (λ _. names.new) result (index_declared default.now names.old index.now) }
+    ensures unchanged { OnErr result (names.new ≡ names.old) }
     ensures room { OnOk result (length names.new ≤ most_names) }
     ensures keeps { OnOk result (KeepsDimensions names.old names.new) }
 {
@@ -175,7 +180,7 @@ fn declare_index(
     Ok(())
 }
 
-/// Declares indices.
+/// Declares indices, up to the first that is refused or for which memory is wanting.
 pub fn declare_indices(
     alloc: Global,
     names: &mut Names,
@@ -185,6 +190,7 @@ pub fn declare_indices(
     requires room { length names.old ≤ most_names }
     requires lawful { IsDimension names.old default.now }
     ensures declared { Gives (λ _. names.new) result (each (index_declared default.now) names.old list.now) }
+    ensures front { OnErr result (AreLeftByFront spelled_indices.SpelledIndex (index_declared default.now) names.old list.now names.new) }
     ensures room { OnOk result (length names.new ≤ most_names) }
     ensures keeps { OnOk result (KeepsDimensions names.old names.new) }
 {
@@ -194,7 +200,7 @@ pub fn declare_indices(
     Ok(())
 }
 
-/// A set with these elements.
+/// A set with these elements. Where it is refused, and where memory is wanting, all stays as it was.
 #[tactic(auto, using(crate::proofs::Declaring::set_keeps, crate::proofs::Declaring::set_room))]
 fn declare_elements(
     alloc: Global,
@@ -206,6 +212,7 @@ fn declare_elements(
     requires fits { is_past_limit names.old (lookup names.old spelled.now.name) ≡ false }
     requires lawful { AreElements names.old elements }
     ensures declared { Gives (λ _. names.new) result (set_once (declare_set_of names.old spelled.now.name elements) spelled.now) }
+    ensures unchanged { OnErr result (names.new ≡ names.old) }
     ensures room { OnOk result (length names.new ≤ most_names) }
     ensures keeps { OnOk result (KeepsDimensions names.old names.new) }
 {
@@ -236,7 +243,7 @@ fn refused_set(
     }
 }
 
-/// Declares a set.
+/// Declares a set. Where this is refused, and where memory is wanting, all stays as it was.
 pub fn declare_set(
     alloc: Global,
     names: &mut Names,
@@ -245,6 +252,7 @@ pub fn declare_set(
 ) -> Result<(), CheckError>
     requires room { length names.old ≤ most_names }
     ensures declared { Gives (λ _. names.new) result (set_declared names.old spelled.now written.now) }
+    ensures unchanged { OnErr result (names.new ≡ names.old) }
     ensures room { OnOk result (length names.new ≤ most_names) }
     ensures keeps { OnOk result (KeepsDimensions names.old names.new) }
 {

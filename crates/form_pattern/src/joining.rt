@@ -204,20 +204,23 @@ impl Pieces {
         Ok(Pieces { pieces })
     }
 
-    pub fn push(&mut self, piece: PatternPiece) -> Result<(), AllocError>
-        ensures { OnOk result (self.new ≡ self.old ++ piece ∷ []) }
+    /// These and one more.
+    pub fn with(self, piece: PatternPiece) -> Result<Pieces, AllocError>
+        ensures { IfOk result (λ p. p ≡ self ++ piece ∷ []) }
     {
-        self.pieces.push(piece)?;
-        Ok(())
+        let Pieces { mut pieces } = self;
+        pieces.push(piece)?;
+        Ok(Pieces { pieces })
     }
 
-    /// Puts others behind these.
-    pub fn append(&mut self, others: Pieces) -> Result<(), AllocError>
-        ensures { OnOk result (self.new ≡ self.old ++ others) }
+    /// These and others behind them.
+    pub fn with_all(self, others: Pieces) -> Result<Pieces, AllocError>
+        ensures { IfOk result (λ p. p ≡ self ++ others) }
     {
-        let Pieces { mut pieces } = others;
-        self.pieces.append(&mut pieces)?;
-        Ok(())
+        let Pieces { mut pieces } = self;
+        let Pieces { pieces: mut more } = others;
+        pieces.append(&mut more)?;
+        Ok(Pieces { pieces })
     }
 
     pub fn into_vec(self) -> Vec<PatternPiece>
@@ -242,8 +245,7 @@ pub fn begun(alloc: Global, is_commuting: bool, name: Name) -> Result<Pieces, Al
 pub fn ended(is_commuting: bool, pieces: Pieces, count: u32) -> Result<Raw, AllocError>
     ensures { IfOk result (λ r. r ≡ ended_by is_commuting pieces count) }
 {
-    let mut pieces = pieces;
-    pieces.push(PatternPiece::EndOfArguments)?;
+    let pieces = pieces.with(PatternPiece::EndOfArguments)?;
     if is_commuting {
         Ok(Raw::Other(pieces, count))
     } else {
@@ -389,28 +391,27 @@ fn join_in(alloc: Global, raw: &Raw, slot: &mut Factor) -> Result<(), AllocError
 /// It is no longer needed.
 fn discard(_raw: Raw) {}
 
-/// Its pieces, put behind others where it has a power left.
-fn put_factor(factor: Factor, out: &mut Pieces) -> Result<(), AllocError>
-    ensures { OnOk result (out.new ≡ out.old ++ pieces_of_factor factor) }
+/// Others, and behind them its pieces where it has a power left.
+fn with_factor(factor: Factor, others: Pieces) -> Result<Pieces, AllocError>
+    ensures { IfOk result (λ p. p ≡ others ++ pieces_of_factor factor) }
 {
     match factor {
         Factor::Symbol(name, power) => {
             if power.unsigned_abs() == 0 {
-                return Ok(());
+                return Ok(others);
             }
-            out.push(PatternPiece::Symbol(name, power))
+            others.with(PatternPiece::Symbol(name, power))
         }
         Factor::Dot(left, right, power) => {
             if power.unsigned_abs() == 0 {
-                return Ok(());
+                return Ok(others);
             }
-            out.push(PatternPiece::Dot(left, right, power))
+            others.with(PatternPiece::Dot(left, right, power))
         }
-        Factor::Other(pieces) => out.append(pieces),
+        Factor::Other(pieces) => others.with_all(pieces),
         Factor::Word(pieces, count) => {
-            out.push(PatternPiece::Word(count))?;
-            out.append(pieces)?;
-            out.push(PatternPiece::EndOfWord)
+            let begun = others.with(PatternPiece::Word(count))?;
+            begun.with_all(pieces)?.with(PatternPiece::EndOfWord)
         }
     }
 }
@@ -424,33 +425,26 @@ impl Level {
         }
     }
 
-    /// A factor that is joined with none.
-    fn put_alone(&mut self, alloc: Global, raw: Raw) -> Result<(), AllocError>
-        ensures { OnOk result (self.new ≡ self.old ++ alone_factors raw) }
+    /// These, and one that is joined with none.
+    fn with_alone(self, alloc: Global, raw: Raw) -> Result<Level, AllocError>
+        ensures { IfOk result (λ l. l ≡ self ++ alone_factors raw) }
     {
+        let Level { mut factors } = self;
         match raw {
-            Raw::Symbol(name, power) => {
-                self.factors.push(Factor::Symbol(name, power))?;
-                Ok(())
-            }
-            Raw::Dot(left, right, power) => {
-                self.factors.push(Factor::Dot(left, right, power))?;
-                Ok(())
-            }
+            Raw::Symbol(name, power) => factors.push(Factor::Symbol(name, power))?,
+            Raw::Dot(left, right, power) => factors.push(Factor::Dot(left, right, power))?,
             Raw::Other(pieces, count) => {
-                put_others(alloc, pieces.pieces.as_slice(), count, &mut self.factors)
+                put_others(alloc, pieces.pieces.as_slice(), count, &mut factors)?
             }
             Raw::Word(pieces, count) => {
-                if count == 0 {
-                    return Ok(());
+                if count > 0 {
+                    let mut word = Vec::new(alloc);
+                    put_times(alloc, pieces.pieces.as_slice(), count, &mut word)?;
+                    factors.push(Factor::Word(Pieces { pieces: word }, count))?;
                 }
-                let mut word = Vec::new(alloc);
-                put_times(alloc, pieces.pieces.as_slice(), count, &mut word)?;
-                self.factors
-                    .push(Factor::Word(Pieces { pieces: word }, count))?;
-                Ok(())
             }
         }
+        Ok(Level { factors })
     }
 
     /// The first factor that one is joined with.
@@ -462,34 +456,36 @@ impl Level {
             .position(|factor| is_joined(raw, factor))
     }
 
-    /// A factor put to those before it: to the first that it is joined with, else last.
-    pub fn put(&mut self, alloc: Global, raw: Raw) -> Result<(), AllocError>
-        ensures { OnOk result (self.new ≡ put_to self.old raw) }
+    /// These and one more: joined with the first that it can be joined with, else last.
+    pub fn with(self, alloc: Global, raw: Raw) -> Result<Level, AllocError>
+        ensures { IfOk result (λ l. l ≡ put_to self raw) }
     {
         match self.place_of(&raw) {
             Some(place) => {
-                join_in(alloc, &raw, &mut self.factors[place])?;
+                let Level { mut factors } = self;
+                join_in(alloc, &raw, &mut factors[place])?;
                 discard(raw);
-                Ok(())
+                Ok(Level { factors })
             }
-            None => self.put_alone(alloc, raw),
+            None => self.with_alone(alloc, raw),
         }
     }
 
-    /// Puts the pieces of all factors that have a power left behind others.
-    pub fn put_pieces(self, out: &mut Pieces) -> Result<(), AllocError>
-        ensures { OnOk result (out.new ≡ out.old ++ pieces_of_level self) }
+    /// Others, and behind them the pieces of all factors that have a power left.
+    pub fn pieces_behind(self, others: Pieces) -> Result<Pieces, AllocError>
+        ensures { IfOk result (λ p. p ≡ others ++ pieces_of_level self) }
     {
-        put_all(self.factors, out)
+        with_factors(self.factors, others)
     }
 }
 
-/// Puts the pieces of these factors behind others.
-fn put_all(factors: Vec<Factor>, out: &mut Pieces) -> Result<(), AllocError>
-    ensures { OnOk result (out.new ≡ out.old ++ pieces_of_level factors.items) }
+/// Others, and behind them the pieces of these factors.
+fn with_factors(factors: Vec<Factor>, others: Pieces) -> Result<Pieces, AllocError>
+    ensures { IfOk result (λ p. p ≡ others ++ pieces_of_level factors.items) }
 {
+    let mut pieces = others;
     for factor in factors {
-        put_factor(factor, out)?;
+        pieces = with_factor(factor, pieces)?;
     }
-    Ok(())
+    Ok(pieces)
 }

@@ -117,17 +117,16 @@ fn with_argument(frames: Frames, argument: Pieces) -> Result<Frames, AllocError>
         Frame {
             level,
             is_commuting,
-            mut pieces,
+            pieces,
         },
     ) = frames.pop()
     else {
         return Ok(frames);
     };
-    pieces.append(argument)?;
     frames.push(Frame {
         level,
         is_commuting,
-        pieces,
+        pieces: pieces.with_all(argument)?,
     })?;
     Ok(frames)
 }
@@ -173,14 +172,13 @@ fn added(alloc: Global, reading: Reading, place: Place, raw: Raw) -> Result<Read
 {
     let Reading {
         frames,
-        mut level,
+        level,
         fixed,
         ..
     } = reading;
-    level.put(alloc, raw)?;
     Ok(Reading {
         frames,
-        level,
+        level: level.with(alloc, raw)?,
         place,
         fixed,
     })
@@ -247,15 +245,14 @@ fn closed(
     ensures { Gives (λ r. r) result (walking.closed_by frame around fixed power) }
 {
     let Frame {
-        mut level,
+        level,
         is_commuting,
         pieces,
     } = frame;
     let raw = function_put(is_commuting, power, pieces)?;
-    level.put(alloc, raw)?;
     Ok(Reading {
         frames: around,
-        level,
+        level: level.with(alloc, raw)?,
         place: Place::Product,
         fixed,
     })
@@ -271,11 +268,12 @@ fn product_ended(alloc: Global, reading: Reading) -> Result<Reading, AllocError>
         fixed,
         ..
     } = reading;
-    let mut argument = Pieces::single(alloc, PatternPiece::Product)?;
-    level.put_pieces(&mut argument)?;
-    argument.push(PatternPiece::EndOfProduct)?;
+    let begun = Pieces::single(alloc, PatternPiece::Product)?;
+    let product = level
+        .pieces_behind(begun)?
+        .with(PatternPiece::EndOfProduct)?;
     Ok(Reading {
-        frames: with_argument(frames, argument)?,
+        frames: with_argument(frames, product)?,
         level: Level::new(alloc),
         place: Place::Behind,
         fixed,
@@ -644,8 +642,7 @@ fn made(alloc: Global, reading: Reading) -> Result<Pattern, AllocError>
 {
     let Reading { level, fixed, .. } = reading;
     let FixedArguments { trees } = fixed;
-    let mut pieces = Pieces::new(alloc);
-    level.put_pieces(&mut pieces)?;
+    let pieces = level.pieces_behind(Pieces::new(alloc))?;
     Ok(Pattern::from_parts(pieces.into_vec(), trees))
 }
 

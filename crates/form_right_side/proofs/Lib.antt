@@ -1,6 +1,7 @@
 pub mod Bare
 pub mod Binding
 pub mod Fronts
+pub mod Kept
 pub mod Loops
 pub mod MisplacedNames
 pub mod Parting

@@ -1,6 +1,7 @@
 -- Loops over a list, up to the first refusal.
-use Rattle.std.proofs.Common.{◌≡◌, ℕ, suc, ◌+◌, ◌<◌, ◌≤◌, List, [], ◌∷◌, ◌++◌, length, get_or, drop, Result, Ok, Err, refl, sym, ap, ◌∙◌, append_assoc, add-one, drop-cons}
+use Rattle.std.proofs.Common.{◌≡◌, ℕ, suc, ◌+◌, ◌<◌, ◌≤◌, List, [], ◌∷◌, ◌++◌, length, get_or, take, drop, Result, Ok, Err, refl, sym, ap, ◌∙◌, append_assoc, add-one, drop-cons}
 use Rattle.std.proofs.lemmas.List.{drop_all, append-nil}
+use Rattle.std.proofs.Math.Seq.{take-suc}
 use Rattle.form_right_side.specs.declared.error.CheckError.{CheckError}
 use Rattle.form_right_side.specs.declared.error.CheckError.TheVariants.{Refused, Memory}
 use Rattle.form_right_side.specs.Refusal.{Refusal, IsRefused, ◌>>=◌, each, listed}
@@ -32,6 +33,21 @@ each-refused step state xs i x all Memory within is invariant stops = tt
 
 pub each-end : {S X : Type 0} (step : S → X → Result S Refusal) (state : S) (xs : List X) (i : ℕ) (all : Result S Refusal) → length xs ≤ i → all ≡ each step state (drop i xs) → all ≡ Ok state
 each-end step state xs i all past invariant = invariant ∙ ap (each step state) (drop_all i xs past)
+
+bound : {S : Type 0} (r : Result S Refusal) (f g : S → Result S Refusal) (before after : S) → (r >>= f) ≡ Ok before → ((s : S) → f s ≡ Ok before → g s ≡ Ok after) → (r >>= g) ≡ Ok after
+bound (Ok s) f g before after is goes = goes s is
+bound (Err e) f g before after is goes = cc
+
+each-last : {S X : Type 0} (step : S → X → Result S Refusal) (start state next : S) (xs : List X) (x : X) → each step start xs ≡ Ok state → step state x ≡ Ok next → each step start (xs ++ x ∷ []) ≡ Ok next
+each-last step start state next [] x is goes =
+    ap (λ r. r >>= (λ s. step s x >>= (λ t. Ok t))) is ∙ ap (λ r. r >>= (λ t. Ok t)) goes
+each-last step start state next (y ∷ ys) x is goes =
+    bound (step start y) (λ s. each step s ys) (λ s. each step s (ys ++ x ∷ [])) state next is (λ s h. each-last step s state next ys x h goes)
+
+-- the steps for the first items, and one more
+pub each-front : {S X : Type 0} (step : S → X → Result S Refusal) (start state next : S) (xs : List X) (i : ℕ) (x : X) → i < length xs → x ≡ get_or xs i x → each step start (take i xs) ≡ Ok state → step state x ≡ Ok next → each step start (take (i + 1) xs) ≡ Ok next
+each-front step start state next xs i x within is so_far goes =
+    rw add-one (ap (each step start) (take-suc xs i x within ∙ ap (λ y. take i xs ++ y ∷ []) (sym is)) ∙ each-last step start state next (take i xs) x so_far goes)
 
 -- ---- what each gives
 

@@ -1,5 +1,5 @@
 -- Going through the pieces of a right side from the front, piece by piece. That this gives what RightSide says is proved.
-use Rattle.std.specs.Prelude.{◌≡◌, ℕ, ◌+◌, ◌-◌, Bool, true, false, ◌==◌, ◌&&◌, if◌then◌else◌, List, [], ◌∷◌, ◌++◌, Option, Some, None, option_map, Result, Ok, Err}
+use Rattle.std.specs.Prelude.{◌≡◌, ℕ, ◌+◌, ◌-◌, Bool, true, false, ◌==◌, ◌&&◌, if◌then◌else◌, List, [], ◌∷◌, ◌++◌, length, take, Option, Some, None, option_map, Result, Ok, Err}
 use Rattle.form_names.specs.Names.{Entry}
 use Rattle.form_ast.specs.declared.expr.Link.{Link}
 use Rattle.form_ast.specs.declared.expr.Link.TheVariants as links
@@ -56,6 +56,10 @@ walk_of w = record { pieces = w.pieces.items; place = w.place; calls = w.calls }
 
 abbrev pub at : List resolved.Piece → Place → ℕ → Walk
 at pieces place calls = record { pieces = pieces; place = place; calls = calls }
+
+-- the pieces from before are still there, in front
+abbrev pub AreKept : Walk → Walk → Type 0
+AreKept before after = take (length before.pieces) after.pieces ≡ before.pieces
 
 abbrev pub moved : Walk → Place → Walk
 moved w place = at w.pieces place w.calls

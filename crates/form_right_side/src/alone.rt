@@ -1,10 +1,10 @@
 //! Numbers and names that stand alone in a right side.
-ghost use Rattle.std.specs.Prelude.{◌≡◌, OnOk};
+ghost use Rattle.std.specs.Prelude.{◌≡◌, OnOk, OnErr};
 ghost use Rattle.form_right_side.specs.Marks.{stands_in};
 ghost use Rattle.form_right_side.specs.Refusal.{Gives};
 ghost use Rattle.form_right_side.specs.RightSide.{number as number_of, name as name_of, spelled_of, by_kind, symbol as symbol_of, size_alone as size_alone_of, number_base as number_base_of, name_base as name_base_of, base_alone, base_by_kind};
 ghost use Rattle.form_right_side.specs.Walking as walking;
-ghost use Rattle.form_right_side.specs.Walking.{walk_of, adds, may_name, with_factor};
+ghost use Rattle.form_right_side.specs.Walking.{walk_of, AreKept, adds, may_name, with_factor};
 ghost use Rattle.form_tree.specs.Tree as tree;
 
 use crate::CheckError;
@@ -38,6 +38,7 @@ impl Walk {
     ) -> Result<(), CheckError>
         ensures gives { Gives (λ _. walk_of self.new) result (adds (walk_of self.old) link (walking.by_power names.now (walking.is_over link) rest.now (number_base_of number.now) (number_of (walking.is_over link) number.now (walking.power_at rest.now)))) }
         ensures calls { OnOk result (self.new.calls ≡ self.old.calls) }
+        ensures unchanged { OnErr result (walk_of self.new ≡ walk_of self.old) }
     {
         let Some((sign, by)) = name_power(rest) else {
             return self.number_to(link, number, power_at(rest));
@@ -56,6 +57,7 @@ impl Walk {
     ) -> Result<(), CheckError>
         ensures gives { Gives (λ _. walk_of self.new) result (adds (walk_of self.old) link (number_of (walking.is_over link) number.now power)) }
         ensures calls { OnOk result (self.new.calls ≡ self.old.calls) }
+        ensures unchanged { OnErr result (walk_of self.new ≡ walk_of self.old) }
     {
         let value = within(number, LARGEST_NUMBER)?;
         let size = size_of(power, LARGEST_POWER)?;
@@ -76,6 +78,7 @@ impl Walk {
     ) -> Result<(), CheckError>
         ensures gives { Gives (λ _. walk_of self.new) result (adds (walk_of self.old) link (symbol_of known.now (walking.is_over link) symbol power)) }
         ensures calls { OnOk result (self.new.calls ≡ self.old.calls) }
+        ensures unchanged { OnErr result (walk_of self.new ≡ walk_of self.old) }
     {
         let size = size_of(power, LARGEST_EXPONENT)?;
         let link_here = link_of(link);
@@ -113,6 +116,7 @@ impl Walk {
     }
 
     /// A function without arguments.
+    #[tactic(auto, using(crate::proofs::Kept::kept_same, crate::proofs::Kept::kept_behind))]
     fn function(
         &mut self,
         link: Link,
@@ -122,6 +126,7 @@ impl Walk {
     ) -> Result<(), AllocError>
         ensures made { OnOk result (walk_of self.new ≡ with_factor (walk_of self.old) link (tree.function function is_commuting tree.empty size)) }
         ensures calls { OnOk result (self.new.calls ≡ self.old.calls) }
+        ensures kept { OnErr result (AreKept (walk_of self.old) (walk_of self.new)) }
     {
         put(
             &mut self.pieces,
@@ -135,6 +140,7 @@ impl Walk {
     }
 
     /// A name alone.
+    #[tactic(auto, using(crate::proofs::Kept::kept_same, crate::proofs::Kept::kept_behind))]
     pub fn name(
         &mut self,
         alloc: Global,
@@ -147,6 +153,7 @@ impl Walk {
     ) -> Result<(), CheckError>
         ensures gives { Gives (λ _. walk_of self.new) result (adds (walk_of self.old) link (walking.by_power names.now (walking.is_over link) rest.now (name_base_of names.now known.now (walking.is_over link) named.now) (name_of names.now (may_name self.old.calls (stands_in standing.now)) known.now (walking.is_over link) named.now (walking.power_at rest.now)))) }
         ensures calls { OnOk result (self.new.calls ≡ self.old.calls) }
+        ensures kept { OnErr result (AreKept (walk_of self.old) (walk_of self.new)) }
     {
         match name_power(rest) {
             Some((sign, by)) => self.raise_name(alloc, names, known, link, named, sign, by),
@@ -155,6 +162,7 @@ impl Walk {
     }
 
     /// A name alone, to a power that is a number.
+    #[tactic(auto, using(crate::proofs::Kept::kept_same, crate::proofs::Kept::kept_behind))]
     fn name_to(
         &mut self,
         alloc: Global,
@@ -167,6 +175,7 @@ impl Walk {
     ) -> Result<(), CheckError>
         ensures gives { Gives (λ _. walk_of self.new) result (adds (walk_of self.old) link (name_of names.now (may_name self.old.calls (stands_in standing.now)) known.now (walking.is_over link) named.now power)) }
         ensures calls { OnOk result (self.new.calls ≡ self.old.calls) }
+        ensures kept { OnErr result (AreKept (walk_of self.old) (walk_of self.new)) }
     {
         let Named::Declared(spelled) = named else {
             let power = self.size_alone(alloc, link, named, power)?;
@@ -181,6 +190,7 @@ impl Walk {
     }
 
     /// A declared name alone.
+    #[tactic(auto, using(crate::proofs::Kept::kept_same, crate::proofs::Kept::kept_behind))]
     fn declared(
         &mut self,
         alloc: Global,
@@ -193,6 +203,7 @@ impl Walk {
     ) -> Result<(), CheckError>
         ensures gives { Gives (λ _. walk_of self.new) result (adds (walk_of self.old) link (by_kind (may_name self.old.calls (stands_in standing.now)) known.now (walking.is_over link) (spelled_of named.now) power found.id found.kind)) }
         ensures calls { OnOk result (self.new.calls ≡ self.old.calls) }
+        ensures kept { OnErr result (AreKept (walk_of self.old) (walk_of self.new)) }
     {
         match found.kind {
             Kind::Symbol => self.symbol(known, link, found.id, power),
@@ -222,6 +233,7 @@ impl Walk {
     }
 
     /// A function without arguments, to a power that is a name.
+    #[tactic(auto, using(crate::proofs::Kept::kept_same, crate::proofs::Kept::kept_behind))]
     fn raise_function(
         &mut self,
         alloc: Global,
@@ -235,6 +247,7 @@ impl Walk {
     ) -> Result<(), CheckError>
         ensures gives { Gives (λ _. walk_of self.new) result (adds (walk_of self.old) link (walking.raised names.now (walking.is_over link) (sign, by.now) (base_alone (walking.is_over link) (spelled_of named.now) (tree.function_base function is_commuting tree.empty)))) }
         ensures calls { OnOk result (self.new.calls ≡ self.old.calls) }
+        ensures kept { OnErr result (AreKept (walk_of self.old) (walk_of self.new)) }
     {
         if is_over(link) {
             return Err(wrong_name(alloc, named)?);
@@ -265,6 +278,7 @@ impl Walk {
     ) -> Result<(), CheckError>
         ensures gives { Gives (λ _. walk_of self.new) result (adds (walk_of self.old) link (walking.raised names.now (walking.is_over link) (sign, by.now) (base_alone (walking.is_over link) (spelled_of named.now) tree.imaginary_base))) }
         ensures calls { OnOk result (self.new.calls ≡ self.old.calls) }
+        ensures unchanged { OnErr result (walk_of self.new ≡ walk_of self.old) }
     {
         if is_over(link) {
             return Err(wrong_name(alloc, named)?);
@@ -273,6 +287,7 @@ impl Walk {
     }
 
     /// A name alone, to a power that is a name.
+    #[tactic(auto, using(crate::proofs::Kept::kept_same, crate::proofs::Kept::kept_behind))]
     fn raise_name(
         &mut self,
         alloc: Global,
@@ -285,6 +300,7 @@ impl Walk {
     ) -> Result<(), CheckError>
         ensures gives { Gives (λ _. walk_of self.new) result (adds (walk_of self.old) link (walking.raised names.now (walking.is_over link) (sign, by.now) (name_base_of names.now known.now (walking.is_over link) named.now))) }
         ensures calls { OnOk result (self.new.calls ≡ self.old.calls) }
+        ensures kept { OnErr result (AreKept (walk_of self.old) (walk_of self.new)) }
     {
         let Named::Declared(spelled) = named else {
             return self.raise_imaginary(alloc, names, link, named, sign, by);
@@ -294,6 +310,7 @@ impl Walk {
     }
 
     /// A declared name alone, to a power that is a name.
+    #[tactic(auto, using(crate::proofs::Kept::kept_same, crate::proofs::Kept::kept_behind))]
     fn raise_declared(
         &mut self,
         alloc: Global,
@@ -307,6 +324,7 @@ impl Walk {
     ) -> Result<(), CheckError>
         ensures gives { Gives (λ _. walk_of self.new) result (adds (walk_of self.old) link (walking.raised names.now (walking.is_over link) (sign, by.now) (base_by_kind known.now (walking.is_over link) (spelled_of named.now) found.id found.kind))) }
         ensures calls { OnOk result (self.new.calls ≡ self.old.calls) }
+        ensures kept { OnErr result (AreKept (walk_of self.old) (walk_of self.new)) }
     {
         match found.kind {
             Kind::Symbol => {

@@ -1,9 +1,9 @@
 //! Dot products, deltas and components of a right side.
-ghost use Rattle.std.specs.Prelude.{◌≡◌, ◌≤◌, ◌∷◌, [], OnOk, Ok};
+ghost use Rattle.std.specs.Prelude.{◌≡◌, ◌≤◌, ◌∷◌, [], OnOk, OnErr, Ok};
 ghost use Rattle.form_right_side.specs.Refusal.{Gives};
 ghost use Rattle.form_right_side.specs.RightSide.{linked as linked_factor, linked_index as linked_index_factor, linked_to, largest_power, linked_base as linked_base_of, enclosed_dot};
 ghost use Rattle.form_right_side.specs.Walking as walking;
-ghost use Rattle.form_right_side.specs.Walking.{walk_of, adds, dot_to};
+ghost use Rattle.form_right_side.specs.Walking.{walk_of, AreKept, adds, dot_to};
 ghost use Rattle.form_tree.specs.Tree as tree;
 
 use crate::CheckError;
@@ -74,6 +74,7 @@ fn linked_index(link: form_tree::Link, index: Index, end: End, power: u32) -> Pi
 
 impl Walk {
     /// Two ends.
+    #[tactic(auto, using(crate::proofs::Kept::kept_same, crate::proofs::Kept::kept_behind))]
     fn link_ends(
         &mut self,
         link: Link,
@@ -85,6 +86,7 @@ impl Walk {
     ) -> Result<(), CheckError>
         ensures gives { Gives (λ _. walk_of self.new) result (adds (walk_of self.old) link (walking.by_power names.now (walking.is_over link) rest.now (Ok (linked_base_of a b)) (linked_to a b (walking.power_at rest.now)))) }
         ensures calls { OnOk result (self.new.calls ≡ self.old.calls) }
+        ensures kept { OnErr result (AreKept (walk_of self.old) (walk_of self.new)) }
     {
         let Some((sign, by)) = name_power(rest) else {
             let size = size_of(power_at(rest), LARGEST_POWER)?;
@@ -98,6 +100,7 @@ impl Walk {
     }
 
     /// A dot product in parentheses, to a power that is a name.
+    #[tactic(auto, using(crate::proofs::Kept::kept_same, crate::proofs::Kept::kept_behind))]
     fn enclose(
         &mut self,
         alloc: Global,
@@ -110,6 +113,7 @@ impl Walk {
     ) -> Result<(), CheckError>
         ensures gives { Gives (λ _. walk_of self.new) result (adds (walk_of self.old) link (walking.raised names.now (walking.is_over link) (sign, by.now) (Ok (enclosed_dot left right)))) }
         ensures calls { OnOk result (self.new.calls ≡ self.old.calls) }
+        ensures kept { OnErr result (AreKept (walk_of self.old) (walk_of self.new)) }
     {
         let symbol = symbol_named(alloc, names, by)?;
         let exponent = exponent_of(is_over(link), sign, symbol);
@@ -138,6 +142,7 @@ impl Walk {
     ) -> Result<(), CheckError>
         ensures gives { Gives (λ _. walk_of self.new) result (walking.dot_ended names.now (walk_of self.old) link left piece.now rest.now) }
         ensures calls { OnOk result (self.new.calls ≡ self.old.calls) }
+        ensures unchanged { OnErr result (walk_of self.new ≡ walk_of self.old) }
     {
         let form_ast::Piece::EndOfDot(named) = piece else {
             return Ok(());
@@ -158,6 +163,7 @@ impl Walk {
     ) -> Result<(), CheckError>
         ensures gives { Gives (λ _. walk_of self.new) result (adds (walk_of self.old) link (walking.by_power names.now (walking.is_over link) rest.now (Ok (tree.dot_base left right)) (dot_to (walking.is_over link) left right (walking.power_at rest.now)))) }
         ensures calls { OnOk result (self.new.calls ≡ self.old.calls) }
+        ensures unchanged { OnErr result (walk_of self.new ≡ walk_of self.old) }
     {
         let Some((sign, by)) = name_power(rest) else {
             let power = power_at(rest);
@@ -183,6 +189,7 @@ impl Walk {
     ) -> Result<(), CheckError>
         ensures gives { Gives (λ _. walk_of self.new) result (walking.first_taken names.now (walk_of self.old) link piece.now) }
         ensures calls { OnOk result (self.new.calls ≡ self.old.calls) }
+        ensures unchanged { OnErr result (walk_of self.new ≡ walk_of self.old) }
     {
         if let Some(first) = entry_end(alloc, names, piece)? {
             self.place = Place::SecondEntry(link, first);
@@ -201,6 +208,7 @@ impl Walk {
     ) -> Result<(), CheckError>
         ensures gives { Gives (λ _. walk_of self.new) result (walking.second_taken names.now (walk_of self.old) link first piece.now) }
         ensures calls { OnOk result (self.new.calls ≡ self.old.calls) }
+        ensures unchanged { OnErr result (walk_of self.new ≡ walk_of self.old) }
     {
         if let Some(second) = entry_end(alloc, names, piece)? {
             self.place = Place::EndOfDelta(link, first, second);
@@ -209,6 +217,7 @@ impl Walk {
     }
 
     /// A `d_` ends.
+    #[tactic(auto, using(crate::proofs::Kept::kept_same, crate::proofs::Kept::kept_behind))]
     pub fn end_delta(
         &mut self,
         alloc: Global,
@@ -221,6 +230,7 @@ impl Walk {
     ) -> Result<(), CheckError>
         ensures gives { Gives (λ _. walk_of self.new) result (walking.delta_ended names.now (walk_of self.old) link first second piece.now rest.now) }
         ensures calls { OnOk result (self.new.calls ≡ self.old.calls) }
+        ensures kept { OnErr result (AreKept (walk_of self.old) (walk_of self.new)) }
     {
         match piece {
             form_ast::Piece::EndOfDelta => {
@@ -231,6 +241,7 @@ impl Walk {
     }
 
     /// The parentheses of a vector end.
+    #[tactic(auto, using(crate::proofs::Kept::kept_same, crate::proofs::Kept::kept_behind))]
     pub fn end_component(
         &mut self,
         alloc: Global,
@@ -243,6 +254,7 @@ impl Walk {
     ) -> Result<(), CheckError>
         ensures gives { Gives (λ _. walk_of self.new) result (walking.component_ended names.now (walk_of self.old) link vector index piece.now rest.now) }
         ensures calls { OnOk result (self.new.calls ≡ self.old.calls) }
+        ensures kept { OnErr result (AreKept (walk_of self.old) (walk_of self.new)) }
     {
         match piece {
             form_ast::Piece::EndOfCall => {
@@ -263,6 +275,7 @@ impl Walk {
     ) -> Result<(), CheckError>
         ensures gives { Gives (λ _. walk_of self.new) result (walking.component_taken names.now (walk_of self.old) link vector piece.now) }
         ensures calls { OnOk result (self.new.calls ≡ self.old.calls) }
+        ensures unchanged { OnErr result (walk_of self.new ≡ walk_of self.old) }
     {
         if let Some(end) = alone_end(alloc, names, piece)? {
             self.place = Place::Component(link, vector, end);

@@ -1,13 +1,13 @@
 //! The commonest pieces of a right side, on a short way: nothing refuses them, and no other piece is asked but their
 //! power.
-ghost use Rattle.std.specs.Prelude.{◌≡◌, ◌+◌, ◌<◌, ◌≤◌, ◌^◌, ◌++◌, ◌∷◌, [], List, None, Ok, IfOk, IfSome, is_some, OnOk, ℕ, pos, neg_ℤ, Bool, false, not, if◌then◌else◌};
+ghost use Rattle.std.specs.Prelude.{◌≡◌, ◌+◌, ◌<◌, ◌≤◌, ◌^◌, ◌++◌, ◌∷◌, [], List, None, Ok, IfOk, IfSome, is_some, OnOk, OnErr, ℕ, pos, neg_ℤ, Bool, false, not, if◌then◌else◌};
 ghost use Rattle.form_ast.specs.declared.expr.Piece as written;
 ghost use Rattle.form_names.specs.Names.{Entry};
 ghost use Rattle.form_right_side.specs.Plain as plain;
 ghost use Rattle.form_right_side.specs.RightSide as definition;
 ghost use Rattle.form_right_side.specs.RightSide.{lone as lone_of};
 ghost use Rattle.form_right_side.specs.Walking as walking;
-ghost use Rattle.form_right_side.specs.Walking.{walk_of, IfPlain};
+ghost use Rattle.form_right_side.specs.Walking.{walk_of, AreKept, IfPlain};
 
 use crate::ahead::plain_power;
 use crate::kinds::{plain_head, plain_symbol};
@@ -111,6 +111,7 @@ fn plain_factor(
 
 impl Walk {
     /// Goes one piece further where it is one of the commonest: whether it is. Otherwise nothing is done.
+    #[tactic(auto, using(crate::proofs::Kept::kept_same, crate::proofs::Kept::kept_behind))]
     #[inline(always)]
     pub fn take_plain(
         &mut self,
@@ -123,6 +124,7 @@ impl Walk {
         ensures plain { IfOk result (λ is_plain. (stands : ℕ → Bool) → IfPlain is_plain (walking.taken names.now stands known.now (walk_of self.old) piece.now rest.now) self.old self.new) }
         ensures exactly { IfOk result (λ is_plain. is_plain ≡ plain.is_plain names.now known.now self.old.place piece.now rest.now) }
         ensures calls { OnOk result (self.new.calls ≤ self.old.calls + 1) }
+        ensures kept { OnErr result (AreKept (walk_of self.old) (walk_of self.new)) }
     {
         match self.place {
             Place::Sum => self.plain_in_sum(names, known, piece, rest),
@@ -132,6 +134,7 @@ impl Walk {
     }
 
     /// A piece of a sum.
+    #[tactic(auto, using(crate::proofs::Kept::kept_same, crate::proofs::Kept::kept_behind))]
     #[inline(always)]
     fn plain_in_sum(
         &mut self,
@@ -145,6 +148,7 @@ impl Walk {
         ensures plain { IfOk result (λ is_plain. (stands : ℕ → Bool) → IfPlain is_plain (walking.in_sum names.now stands known.now (walk_of self.old) piece.now rest.now) self.old self.new) }
         ensures exactly { IfOk result (λ is_plain. is_plain ≡ plain.is_plain_in_sum names.now known.now piece.now rest.now) }
         ensures calls { OnOk result (self.new.calls ≤ self.old.calls + 1) }
+        ensures kept { OnErr result (AreKept (walk_of self.old) (walk_of self.new)) }
     {
         match piece {
             form_ast::Piece::Raised(_, _, _) => Ok(true),
@@ -166,6 +170,7 @@ impl Walk {
     }
 
     /// A piece where an argument may begin.
+    #[tactic(auto, using(crate::proofs::Kept::kept_same, crate::proofs::Kept::kept_behind))]
     #[inline(always)]
     fn plain_argument(
         &mut self,
@@ -177,6 +182,7 @@ impl Walk {
         ensures plain { IfOk result (λ is_plain. (stands : ℕ → Bool) → IfPlain is_plain (walking.in_arguments names.now stands known.now (walk_of self.old) piece.now rest.now) self.old self.new) }
         ensures exactly { IfOk result (λ is_plain. is_plain ≡ plain.is_plain_factor names.now known.now piece.now rest.now) }
         ensures calls { OnOk result (self.new.calls ≡ self.old.calls) }
+        ensures kept { OnErr result (AreKept (walk_of self.old) (walk_of self.new)) }
     {
         match plain_factor(names, known, piece, rest) {
             Some(factor) => {
@@ -196,6 +202,7 @@ impl Walk {
         ensures plain { IfOk result (λ is_plain. (rest : List written.Piece) → IfPlain is_plain (walking.called names.now (walk_of self.old) link named.now rest) self.old self.new) }
         ensures exactly { IfOk result (λ is_plain. is_plain ≡ plain.is_plain_call names.now named.now) }
         ensures calls { OnOk result (self.new.calls ≤ self.old.calls + 1) }
+        ensures unchanged { OnErr result (walk_of self.new ≡ walk_of self.old) }
     {
         let Named::Declared(spelled) = named else {
             return Ok(false);
@@ -217,12 +224,14 @@ impl Walk {
     }
 
     /// A function ends behind an argument that is an expression.
+    #[tactic(auto, using(crate::proofs::Kept::kept_same, crate::proofs::Kept::kept_behind))]
     #[inline(always)]
     fn plain_end(&mut self, rest: &[form_ast::Piece]) -> Result<bool, AllocError>
         requires { self.old.place ≡ Place.Sum }
         ensures plain { IfOk result (λ is_plain. (names : List Entry) → IfPlain is_plain (walking.call_ended names (walking.argument_ended (walk_of self.old)) rest.now) self.old self.new) }
         ensures exactly { IfOk result (λ is_plain. is_plain ≡ plain.has_plain_power definition.largest_power rest.now) }
         ensures calls { OnOk result (self.new.calls ≤ self.old.calls) }
+        ensures kept { OnErr result (AreKept (walk_of self.old) (walk_of self.new)) }
     {
         let Some((_, power)) = plain_power(rest, LARGEST_POWER) else {
             return Ok(false);

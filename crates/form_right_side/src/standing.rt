@@ -1,5 +1,5 @@
 //! Which expressions stand at the start of a module.
-ghost use Rattle.std.specs.Prelude.{◌≡◌, ◌+◌, ◌<◌, ◌^◌, ℕ, false, ◌==◌, ◌||◌, ◌&&◌, not, if◌then◌else◌, OnOk};
+ghost use Rattle.std.specs.Prelude.{◌≡◌, ◌+◌, ◌<◌, ◌^◌, ℕ, false, ◌==◌, ◌||◌, ◌&&◌, not, if◌then◌else◌, OnOk, OnErr};
 ghost use Rattle.form_right_side.specs.Marks.{current_in, mark_at, stands_in, is_defined_in, stays_in, AreMarksLawful};
 
 use form_base::Id;
@@ -83,14 +83,15 @@ impl Standing {
         self.mark(id).defined == self.current
     }
 
-    /// The module defines the expression.
+    /// The module defines the expression. Where memory is wanting, nothing changes.
     pub fn define(&mut self, id: Id) -> Result<(), AllocError>
         requires { AreMarksLawful self.old }
-        ensures current { OnOk result (current_in self.new ≡ current_in self.old) }
-        ensures lawful { OnOk result (AreMarksLawful self.new) }
-        ensures stands { OnOk result ((e : ℕ) → stands_in self.new e ≡ stands_in self.old e) }
+        ensures current { current_in self.new ≡ current_in self.old }
+        ensures lawful { AreMarksLawful self.new }
+        ensures stands { (e : ℕ) → stands_in self.new e ≡ stands_in self.old e }
         ensures defines { OnOk result ((e : ℕ) → is_defined_in self.new e ≡ (is_defined_in self.old e || (id == e))) }
-        ensures stays { OnOk result ((e : ℕ) → stays_in self.new e ≡ stays_in self.old e) }
+        ensures stays { (e : ℕ) → stays_in self.new e ≡ stays_in self.old e }
+        ensures unchanged { OnErr result ((e : ℕ) → is_defined_in self.new e ≡ is_defined_in self.old e) }
     {
         let mark = Mark {
             defined: self.current,
@@ -112,14 +113,15 @@ impl Standing {
         self.drops_all = true;
     }
 
-    /// The module drops the expression, where it stands at its start.
+    /// The module drops the expression, where it stands at its start. Where memory is wanting, nothing changes.
     pub fn drop_named(&mut self, id: Id) -> Result<(), AllocError>
         requires { AreMarksLawful self.old }
-        ensures current { OnOk result (current_in self.new ≡ current_in self.old) }
-        ensures lawful { OnOk result (AreMarksLawful self.new) }
-        ensures stands { OnOk result ((e : ℕ) → stands_in self.new e ≡ stands_in self.old e) }
-        ensures defines { OnOk result ((e : ℕ) → is_defined_in self.new e ≡ is_defined_in self.old e) }
+        ensures current { current_in self.new ≡ current_in self.old }
+        ensures lawful { AreMarksLawful self.new }
+        ensures stands { (e : ℕ) → stands_in self.new e ≡ stands_in self.old e }
+        ensures defines { (e : ℕ) → is_defined_in self.new e ≡ is_defined_in self.old e }
         ensures stays { OnOk result ((e : ℕ) → stays_in self.new e ≡ (stays_in self.old e && not (id == e))) }
+        ensures unchanged { OnErr result ((e : ℕ) → stays_in self.new e ≡ stays_in self.old e) }
     {
         if !self.stands(id) {
             return Ok(());
@@ -151,7 +153,8 @@ impl Standing {
 
 /// Sets a mark.
 fn set_mark(marks: &mut Vec<Mark>, id: Id, mark: Mark) -> Result<(), AllocError>
-    ensures { OnOk result ((e : ℕ) → mark_at marks.new.items e ≡ (if id == e then mark else mark_at marks.old.items e)) }
+    ensures set { OnOk result ((e : ℕ) → mark_at marks.new.items e ≡ (if id == e then mark else mark_at marks.old.items e)) }
+    ensures unchanged { OnErr result ((e : ℕ) → mark_at marks.new.items e ≡ mark_at marks.old.items e) }
 {
     let position = id.position() as usize;
     while marks.len() <= position {

@@ -1,11 +1,11 @@
 //! Going through the pieces of a right side from the front.
-ghost use Rattle.std.specs.Prelude.{◌≡◌, ◌+◌, ◌<◌, ◌≤◌, ◌^◌, ◌++◌, ◌∷◌, [], OnOk, Ok};
+ghost use Rattle.std.specs.Prelude.{◌≡◌, ◌+◌, ◌<◌, ◌≤◌, ◌^◌, ◌++◌, ◌∷◌, [], OnOk, OnErr, Ok};
 ghost use Rattle.std.specs.Mem.{FitsInMemory};
 ghost use Rattle.form_right_side.specs.Marks.{stands_in};
 ghost use Rattle.form_right_side.specs.Refusal.{Gives};
 ghost use Rattle.form_right_side.specs.RightSide.{lone as lone_of};
 ghost use Rattle.form_right_side.specs.Walking as walking;
-ghost use Rattle.form_right_side.specs.Walking.{at, walk_of, adds};
+ghost use Rattle.form_right_side.specs.Walking.{at, walk_of, adds, AreKept};
 
 use crate::CheckError;
 use crate::ahead::{begin_alone, ends_call, field_of, is_single, lone_argument, misplaced_in};
@@ -56,7 +56,8 @@ pub struct Walk {
 /// Puts an item last. It is of any type, since for the type of pieces alone the checker gives up.
 pub fn put<T: Copy>(items: &mut Vec<T>, item: T) -> Result<(), AllocError>
     requires memory { FitsInMemory T.row }
-    ensures { OnOk result (items.new.items ≡ items.old.items ++ item ∷ []) }
+    ensures last { OnOk result (items.new.items ≡ items.old.items ++ item ∷ []) }
+    ensures unchanged { OnErr result (items.new.items ≡ items.old.items) }
 {
     items.push(item)?;
     Ok(())
@@ -96,6 +97,7 @@ impl Walk {
     pub fn add(&mut self, piece: Piece) -> Result<(), AllocError>
         ensures made { OnOk result (walk_of self.new ≡ at (self.old.pieces.items ++ piece ∷ []) Place.Sum self.old.calls) }
         ensures calls { OnOk result (self.new.calls ≡ self.old.calls) }
+        ensures unchanged { OnErr result (walk_of self.new ≡ walk_of self.old) }
     {
         put(&mut self.pieces, piece)?;
         self.place = Place::Sum;
@@ -114,6 +116,7 @@ impl Walk {
     ) -> Result<(), CheckError>
         ensures gives { Gives (λ _. walk_of self.new) result (adds (walk_of self.old) link (walking.raised names.now (walking.is_over link) (sign, by.now) (Ok (walking.base_of base)))) }
         ensures calls { OnOk result (self.new.calls ≡ self.old.calls) }
+        ensures unchanged { OnErr result (walk_of self.new ≡ walk_of self.old) }
     {
         let symbol = symbol_named(alloc, names, by)?;
         let exponent = exponent_of(is_over(link), sign, symbol);
@@ -133,6 +136,7 @@ impl Walk {
         requires { self.old.calls + 1 < 2 ^ 64 }
         ensures gives { Gives (λ _. walk_of self.new) result (walking.called names.now (walk_of self.old) link named.now rest.now) }
         ensures calls { OnOk result (self.new.calls ≤ self.old.calls + 1) }
+        ensures unchanged { OnErr result (walk_of self.new ≡ walk_of self.old) }
     {
         match head(alloc, names, named)? {
             Head::Function(function, is_commuting) => {
@@ -170,6 +174,7 @@ impl Walk {
     ) -> Result<(), CheckError>
         ensures gives { Gives (λ _. walk_of self.new) result (walking.call_ended names.now (walk_of self.old) rest.now) }
         ensures calls { OnOk result (self.new.calls ≤ self.old.calls) }
+        ensures unchanged { OnErr result (walk_of self.new ≡ walk_of self.old) }
     {
         let piece = end_of_function(alloc, names, rest)?;
         self.add(piece)?;
@@ -186,6 +191,7 @@ impl Walk {
     ) -> Result<(), CheckError>
         ensures gives { Gives (λ _. walk_of self.new) result (walking.closed names.now (walk_of self.old) rest.now) }
         ensures calls { OnOk result (self.new.calls ≡ self.old.calls) }
+        ensures unchanged { OnErr result (walk_of self.new ≡ walk_of self.old) }
     {
         let piece = end_of_parenthesis(alloc, names, rest)?;
         self.add(piece)?;
@@ -193,6 +199,7 @@ impl Walk {
     }
 
     /// A piece of a sum.
+    #[tactic(auto, using(crate::proofs::Kept::kept_same, crate::proofs::Kept::kept_behind))]
     #[inline(never)]
     fn in_sum(
         &mut self,
@@ -206,6 +213,7 @@ impl Walk {
         requires { self.old.calls + 1 < 2 ^ 64 }
         ensures gives { Gives (λ _. walk_of self.new) result (walking.in_sum names.now (stands_in standing.now) known.now (walk_of self.old) piece.now rest.now) }
         ensures calls { OnOk result (self.new.calls ≤ self.old.calls + 1) }
+        ensures kept { OnErr result (AreKept (walk_of self.old) (walk_of self.new)) }
     {
         match piece {
             form_ast::Piece::Number(link, number) => self.number(alloc, names, *link, number, rest),
@@ -249,6 +257,7 @@ impl Walk {
     }
 
     /// A piece where an argument may begin.
+    #[tactic(auto, using(crate::proofs::Kept::kept_same, crate::proofs::Kept::kept_behind))]
     fn in_arguments(
         &mut self,
         alloc: Global,
@@ -261,6 +270,7 @@ impl Walk {
         requires { self.old.calls + 1 < 2 ^ 64 }
         ensures gives { Gives (λ _. walk_of self.new) result (walking.in_arguments names.now (stands_in standing.now) known.now (walk_of self.old) piece.now rest.now) }
         ensures calls { OnOk result (self.new.calls ≤ self.old.calls + 1) }
+        ensures kept { OnErr result (AreKept (walk_of self.old) (walk_of self.new)) }
     {
         if ends_call(piece) {
             return self.end_call(alloc, names, rest);
@@ -276,6 +286,7 @@ impl Walk {
     }
 
     /// A piece where an argument begins.
+    #[tactic(auto, using(crate::proofs::Kept::kept_same, crate::proofs::Kept::kept_behind))]
     fn begin_argument(
         &mut self,
         alloc: Global,
@@ -288,6 +299,7 @@ impl Walk {
         requires { self.old.calls + 1 < 2 ^ 64 }
         ensures gives { Gives (λ _. walk_of self.new) result (walking.argument_begun names.now (stands_in standing.now) known.now (walk_of self.old) piece.now rest.now (lone_of names.now (walking.alone_before rest.now piece.now))) }
         ensures calls { OnOk result (self.new.calls ≤ self.old.calls + 1) }
+        ensures kept { OnErr result (AreKept (walk_of self.old) (walk_of self.new)) }
     {
         match lone_argument(names, piece, rest) {
             Some(argument) => {
@@ -312,6 +324,7 @@ impl Walk {
     ) -> Result<(), CheckError>
         ensures gives { Gives (λ _. walk_of self.new) result (walking.behind_argument names.now (walk_of self.old) piece.now rest.now) }
         ensures calls { OnOk result (self.new.calls ≤ self.old.calls) }
+        ensures unchanged { OnErr result (walk_of self.new ≡ walk_of self.old) }
     {
         match piece {
             form_ast::Piece::Comma => {
@@ -324,6 +337,7 @@ impl Walk {
     }
 
     /// Goes one piece further, behind which these are.
+    #[tactic(auto, using(crate::proofs::Kept::kept_same, crate::proofs::Kept::kept_behind))]
     #[inline(never)]
     pub fn take(
         &mut self,
@@ -337,11 +351,13 @@ impl Walk {
         requires { self.old.calls + 1 < 2 ^ 64 }
         ensures gives { Gives (λ _. walk_of self.new) result (walking.taken names.now (stands_in standing.now) known.now (walk_of self.old) piece.now rest.now) }
         ensures calls { OnOk result (self.new.calls ≤ self.old.calls + 1) }
+        ensures kept { OnErr result (AreKept (walk_of self.old) (walk_of self.new)) }
     {
         self.take_at(self.place, alloc, names, standing, known, piece, rest)
     }
 
     /// The same where it stands there.
+    #[tactic(auto, using(crate::proofs::Kept::kept_same, crate::proofs::Kept::kept_behind))]
     fn take_at(
         &mut self,
         place: Place,
@@ -355,6 +371,7 @@ impl Walk {
         requires { self.old.calls + 1 < 2 ^ 64 }
         ensures gives { Gives (λ _. walk_of self.new) result (walking.taken_at names.now (stands_in standing.now) known.now (walk_of self.old) piece.now rest.now place) }
         ensures calls { OnOk result (self.new.calls ≤ self.old.calls + 1) }
+        ensures kept { OnErr result (AreKept (walk_of self.old) (walk_of self.new)) }
     {
         match place {
             Place::Sum => self.in_sum(alloc, names, standing, known, piece, rest),

@@ -1,7 +1,8 @@
 use Rattle.std.proofs.Common.{◌∙◌, ◌==◌, ◌&&◌, not, arith}
 use Rattle.std.specs.List.{list_any}
+use Rattle.std.proofs.lemmas.Result.{err_from_is_err_and}
 use Rattle.form_right_side.specs.Marks.{stays_in}
-use Rattle.form_check.proofs.Dropping.{stays-next, stays-end}
+use Rattle.form_check.proofs.Dropping.{stays-next, stays-end, stays-other}
 use Rattle.form_check.proofs.standing.drop_selected.Goals as goal
 
 pub loop-id-preserved : goal.loop-id-preserved
@@ -21,3 +22,9 @@ returns-after-loop-id-clause-stays c = λ e.
     let ids = c.as_slice-id-items.result.now in
     let past = stays-end (stays_in c.args.standing.now e && not (list_any (λ id. id == e) ids)) (stays_in c.loop-id.standing e) ids c.loop-id.id-index e (omega arith) (c.loop-id.invariant.staying e) in
     rw (c.in-Named.is, ← c.as_slice-id-items.ensures) past
+
+pub returns-in_err-drop_named-in-Named-clause-others : goal.returns-in_err-drop_named-in-Named-clause-others
+returns-in_err-drop_named-in-Named-clause-others c =
+    let ids = c.as_slice-id-items.result.now in
+    rw (err_from_is_err_and c.from_residual.result c.from_residual.ensures.1).1 (λ e none.
+    c.in_err-drop_named-in-Named.ensures.unchanged e ∙ stays-other (stays_in c.args.standing.now e) (stays_in c.loop-id.standing e) ids c.loop-id.id-index e (rw (c.in-Named.is, ← c.as_slice-id-items.ensures) at none) (c.loop-id.invariant.staying e))

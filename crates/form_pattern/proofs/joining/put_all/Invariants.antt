@@ -1,8 +1,0 @@
-use Rattle.std.proofs.Common.{◌≡◌, ◌++◌}
-use Rattle.std.specs.Vec.Iter.{into_iter_items}
-use Rattle.form_pattern.specs.Joining.{pieces_of_level}
-use Rattle.form_pattern.proofs.joining.put_all.Given as goal
-
--- what was put and what is left are all
-abbrev pub invariant-loop-factor : goal.invariant-loop-factor
-invariant-loop-factor l = l.out ++ pieces_of_level (into_iter_items l.factor-iterator) ≡ l.fn.out ++ pieces_of_level l.fn.factors.items
