@@ -1,5 +1,5 @@
 -- Lists of two terms at most, collected.
-use Rattle.std.proofs.Common.{◌≡◌, ◌<◌, ◌≤◌, ◌==◌, Bool, true, false, not, List, [], ◌∷◌, ◌++◌, length, Option, Some, None, Ok, refl, sym, ap, subst, ◌∙◌, append_assoc, append-nil, arith}
+use Rattle.std.proofs.Common.{◌≡◌, ◌<◌, ◌≤◌, ◌==◌, Bool, true, false, not, List, [], ◌∷◌, ◌++◌, length, Option, Some, None, Ok, refl, sym, ap, subst, ◌∙◌, append_assoc, arith}
 use Rattle.std.specs.Bool.{OnTrue}
 use Rattle.std.specs.Option.{ok_or}
 use Rattle.std.specs.List.{slice_index_or}
@@ -47,19 +47,6 @@ added_to list front rest one two c h e f =
     ap collected whole ∙ by rest (subst (λ (ms : List Monomial). IsAdded ms c) whole h)
   where
     by : (ms : List Monomial) → IsAdded ((ms ++ one ∷ []) ++ two ∷ []) c → collected ((ms ++ one ∷ []) ++ two ∷ []) ≡ Some (ms ++ record { coefficient = c; term = one.term } ∷ [])
-    by [] h = h
-    by (r ∷ []) h = absurd h
-    by (r ∷ s ∷ []) h = absurd h
-    by (r ∷ s ∷ t ∷ ts) h = absurd h
-
--- both go, and come back the other way round
-pub exchanged_to : (list front rest : List Monomial) (one two : Monomial) → IsExchanged list → list ≡ front ++ two ∷ [] → front ≡ rest ++ one ∷ []
-    → collected list ≡ Some ((rest ++ two ∷ []) ++ one ∷ [])
-exchanged_to list front rest one two h e f =
-    let whole : list ≡ (rest ++ one ∷ []) ++ two ∷ [] = e ∙ ap (λ (ms : List Monomial). ms ++ two ∷ []) f in
-    ap collected whole ∙ by rest (subst IsExchanged whole h)
-  where
-    by : (ms : List Monomial) → IsExchanged ((ms ++ one ∷ []) ++ two ∷ []) → collected ((ms ++ one ∷ []) ++ two ∷ []) ≡ Some ((ms ++ two ∷ []) ++ one ∷ [])
     by [] h = h
     by (r ∷ []) h = absurd h
     by (r ∷ s ∷ []) h = absurd h
@@ -115,8 +102,3 @@ one_more c d whole m old new h e on = record {
   stands = on h.done h.stands;
   is = append_assoc h.done (m ∷ []) new ∙ ap (λ ms. h.done ++ ms) (sym e) ∙ h.is;
 }
-
-pub all_begun : (c : Collector) (whole rest terms : List Monomial) → IsBegun c whole rest → rest ≡ [] → ((list : List Monomial) → IsCollectionOf c list → collected list ≡ Some terms) → collected whole ≡ Some terms
-all_begun c whole rest terms h none made =
-    let all : h.done ≡ whole = sym (append-nil h.done) ∙ ap (λ ms. h.done ++ ms) (sym none) ∙ h.is in
-    ap collected (sym all) ∙ made h.done h.stands

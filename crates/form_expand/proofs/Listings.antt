@@ -1,7 +1,7 @@
 -- Equations of lists of terms.
 use Rattle.std.proofs.Common.{◌≡◌, ℕ, zero, suc, ◌<◌, ◌≤◌, Bool, true, false, ltb, List, [], ◌∷◌, ◌++◌, length, take, refl, sym, ap, ◌∙◌, arith, append_assoc, append-nil, le-ltb, lt-ltb}
 use Rattle.std.proofs.lemmas.Bool.{ltb-true, ltb-false}
-use Rattle.std.proofs.Math.Seq.{take-append_seam, take-length}
+use Rattle.std.proofs.Math.Seq.{take-length}
 use Rattle.std.proofs.lemmas.List.{length-take, length-append, length-map, take-append-le}
 use Rattle.std.specs.Prelude.{Option, Some, None}
 use Rattle.form_base.specs.declared.cause.Cause.{Cause}
@@ -171,12 +171,7 @@ pub taken_on : (ms : List Monomial) (m : Monomial) (l : Listing) → followed (r
 unfolding followed_at
 taken_on ms m l = ap (λ ns. record { terms = ns; end = l.end }) (sym (append_assoc ms (m ∷ []) l.terms))
 
-pub taken_over : (n : ℕ) (ms : List Monomial) (m : Monomial) (l : Listing) → length ms ≡ n → limited n (followed (record { terms = ms; end = None }) (before m l)) ≡ record { terms = ms; end = Some ExpandLimit }
 unfolding followed_at
-taken_over n ms m l full =
-    let long : n < length (ms ++ m ∷ l.terms) = omega (arith, length-append ms (m ∷ l.terms)) in
-    let cut : take n (ms ++ m ∷ l.terms) ≡ ms = rw (← full) (take-append_seam ms (m ∷ l.terms)) in
-    limited_beyond n (record { terms = ms ++ m ∷ l.terms; end = l.end }) long ∙ ap (λ ns. record { terms = ns; end = Some ExpandLimit }) cut
 
 pub taken_to_end : (n : ℕ) (ms : List Monomial) (end : Option Cause) → length ms ≤ n → limited n (followed (record { terms = ms; end = None }) (record { terms = []; end = end })) ≡ record { terms = ms; end = end }
 unfolding followed_at

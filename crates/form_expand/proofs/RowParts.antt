@@ -1,6 +1,5 @@
 -- The lists of a row, each within the limit.
-use Rattle.std.proofs.Common.{◌≡◌, ℕ, zero, suc, ◌<◌, ◌≤◌, List, [], ◌∷◌, ◌++◌, Option, Some, None, Result, Ok, Err, length, map, refl, sym, ap, subst, ◌∙◌, arith, append_assoc, append-nil}
-use Rattle.std.proofs.lemmas.List.{map-append}
+use Rattle.std.proofs.Common.{◌≡◌, ℕ, zero, suc, ◌<◌, ◌≤◌, List, [], ◌∷◌, ◌++◌, Option, Some, None, Result, Ok, Err, length, map, refl, sym, ap, subst, ◌∙◌, arith, append-nil}
 use Rattle.form_base.specs.declared.cause.Cause.{Cause}
 use Rattle.form_base.specs.declared.cause.Cause.TheVariants.{ExpandLimit}
 use Rattle.form_term.specs.declared.monomial.Monomial.{Monomial}
@@ -59,24 +58,6 @@ row_of_parts zero m ps = first_same 0 (single m) (map (bounded 0) ps) ∙ no_row
 row_of_parts (suc k) m ps = first_same (suc k) (single m) (map (bounded (suc k)) ps) ∙ ap (λ ls. row (suc k) (single m ∷ ls)) (all_same k ps)
 
 -- The factors of a row, by the parts that are read and those that are left.
-
-pub factors_begin : (max : ℕ) (fs : List Factor) (f : Factor) (m : Monomial) (ps all : List Part) → fs ≡ f ∷ [] → factor_whole max f ≡ limited max (single m) → ps ≡ all
-    → map (factor_whole max) fs ++ map (bounded max) ps ≡ limited max (single m) ∷ map (bounded max) all
-factors_begin max fs f m ps all first is same =
-    ap (λ gs. map (factor_whole max) gs ++ map (bounded max) ps) first
-    ∙ ap (λ l. l ∷ map (bounded max) ps) is
-    ∙ ap (λ qs. limited max (single m) ∷ map (bounded max) qs) same
-
-pub factors_more : (max : ℕ) (fs now : List Factor) (f : Factor) (p : Part) (ps rest : List Part) (whole : List Listing)
-    → map (factor_whole max) fs ++ map (bounded max) ps ≡ whole → ps ≡ p ∷ rest → now ≡ fs ++ f ∷ [] → factor_whole max f ≡ bounded max p
-    → map (factor_whole max) now ++ map (bounded max) rest ≡ whole
-factors_more max fs now f p ps rest whole so_far next is made =
-    ap (λ gs. map (factor_whole max) gs ++ map (bounded max) rest) is
-    ∙ ap (λ ls. ls ++ map (bounded max) rest) (map-append (factor_whole max) fs (f ∷ []))
-    ∙ append_assoc (map (factor_whole max) fs) (factor_whole max f ∷ []) (map (bounded max) rest)
-    ∙ ap (λ l. map (factor_whole max) fs ++ l ∷ map (bounded max) rest) made
-    ∙ ap (λ qs. map (factor_whole max) fs ++ map (bounded max) qs) (sym next)
-    ∙ so_far
 
 pub factors_done : (max : ℕ) (fs : List Factor) (m : Monomial) (ps all : List Part) (product : Listing)
     → map (factor_whole max) fs ++ map (bounded max) ps ≡ limited max (single m) ∷ map (bounded max) all → ps ≡ [] → product ≡ row max (map (factor_whole max) fs)

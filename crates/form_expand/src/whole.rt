@@ -1,4 +1,4 @@
-ghost use Rattle.std.specs.Prelude.{◌≡◌, ◌↔◌, ◌+◌, ◌<◌, ◌^◌, Some, None, is_some, IsTrue, OnSome, length};
+ghost use Rattle.std.specs.Prelude.{◌≡◌, ◌↔◌, ◌+◌, ◌<◌, ◌^◌, Some, None, IsTrue, OnSome, length};
 ghost use Rattle.form_expand.specs.Listing.{nothing, single, refusal};
 ghost use Rattle.form_expand.specs.Kept.{kept_terms, listing, end_of, ended_by, BeginsAt};
 ghost use Rattle.form_expand.specs.Walks.{IsAlone};
@@ -85,28 +85,11 @@ impl Whole<'_> {
         }
     }
 
-    /// The list of these terms, which stay where they are.
-    pub fn of_slice<'a>(terms: &'a [Monomial]) -> Whole<'a>
-        ensures { listing result ≡ record { terms = terms.now; end = None } }
-    {
-        Whole {
-            kept: Kept::Stored(terms),
-            end: None,
-        }
-    }
-
     /// The terms before its end.
     pub fn terms(&self) -> &[Monomial]
         ensures { result.now ≡ (listing self.now).terms }
     {
         self.kept.as_slice()
-    }
-
-    /// Whether it is refused behind its last term.
-    pub fn is_refused(&self) -> bool
-        ensures { result ≡ is_some ((listing self.now).end) }
-    {
-        self.end.is_some()
     }
 
     pub fn len(&self) -> usize

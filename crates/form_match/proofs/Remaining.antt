@@ -53,11 +53,6 @@ powers_here us ps i p within is =
     filter_first (λ (q : Power). nat_lt 0 (nat_abs q.exponent)) (lowered us p) (map (lowered us) (drop (i + 1) ps))
     ∙ ap (powers_left us) (ap (λ (q : Power). q ∷ drop (i + 1) ps) is ∙ sym (drop_more ps i p within))
 
--- powers are gone through from the last one, each lowered in its place
-pub powers_begin : (us : List Use) (ps : List Power) (m : ℕ) → m ≡ length ps → ps ≡ take m ps ++ powers_left us (drop m ps)
-powers_begin us ps m all =
-    at_back ps m all ∙ ap (λ (l : List Power). take m ps ++ powers_left us l) (sym (drop_all m ps (omega (arith, all))))
-
 pub powers_back : (us : List Use) (ps left new : List Power) (m k : ℕ) (p made : Power) → m ≡ k + 1 → k < length ps → left ≡ take m ps ++ powers_left us (drop m ps)
     → p ≡ get_or left k p → made ≡ record { symbol = p.symbol; exponent = p.exponent -ℤ taken (symbol_taken p.symbol) us }
     → new ≡ take k left ++ (present_power made ++ drop (k + 1) left)
@@ -91,9 +86,6 @@ dots_step us ds left n i d made at within is lowered before =
     (ap (λ (m : DotPower). present_dot m ++ dots_from (n + 1) us (drop (i + 1) ds)) lowered
     ∙ sym (dots_more n us d (drop (i + 1) ds))
     ∙ ap (dots_from n us) (ap (λ (q : DotPower). q ∷ drop (i + 1) ds) is ∙ sym (drop_more ds i d within)))
-
-pub dots_end : (us : List Use) (ds left : List DotPower) (n i : ℕ) → length ds ≤ i → left ++ dots_from n us (drop i ds) ≡ dots_left us ds → left ≡ dots_left us ds
-dots_end us ds left n i past before = sym (append-nil left) ∙ ap (λ (l : List DotPower). left ++ dots_from n us l) (sym (drop_all i ds past)) ∙ before
 
 -- the elements that aren't taken, from a place on
 abbrev pub untaken_from : {A : Type 0} → ℕ → (ℕ → Use → Bool) → List Use → List A → List A
@@ -388,14 +380,6 @@ word_keeps P keeps (u ∷ us) w h = word_keeps P keeps us (without_stretch u w) 
     by (uses.Delta n) = h
     by (uses.Function n) = h
     by (uses.Stretch start n) = keeps start n w h
-
-pub word_step : (us : List Use) (w left next : List Call) (i : ℕ) (u : Use) → i < length us → u ≡ get_or us i u → next ≡ without_stretch u left
-    → word_left (drop i us) left ≡ word_left us w → word_left (drop (i + 1) us) next ≡ word_left us w
-word_step us w left next i u within is e before =
-    ap (word_left (drop (i + 1) us)) e ∙ ap (λ (vs : List Use). word_left vs left) (ap (λ (v : Use). v ∷ drop (i + 1) us) is ∙ sym (drop_more us i u within)) ∙ before
-
-pub word_end : (us : List Use) (w left : List Call) (i : ℕ) → length us ≤ i → word_left (drop i us) left ≡ word_left us w → left ≡ word_left us w
-word_end us w left i past before = ap (λ (vs : List Use). word_left vs left) (sym (drop_all i us past)) ∙ before
 
 -- ---- what is left is a term
 

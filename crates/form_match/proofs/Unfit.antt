@@ -46,23 +46,6 @@ plain_if (pieces.Field w) claim holds = holds
 plain_if pieces.Product claim holds = holds
 plain_if pieces.EndOfProduct claim holds = tt
 
-pub plain_map : (p : PatternPiece) (claim other : Type 0) → (claim → other) → IfPlain p claim → IfPlain p other
-plain_map (pieces.Symbol n k) claim other go holds = go holds
-plain_map (pieces.Whole n m) claim other go holds = go holds
-plain_map (pieces.Dot q r k) claim other go holds = go holds
-plain_map (pieces.Component v i) claim other go holds = go holds
-plain_map (pieces.Delta i j) claim other go holds = go holds
-plain_map (pieces.Function n) claim other go holds = tt
-plain_map (pieces.Word n) claim other go holds = tt
-plain_map (pieces.Call n) claim other go holds = go holds
-plain_map pieces.EndOfArguments claim other go holds = go holds
-plain_map pieces.EndOfWord claim other go holds = go holds
-plain_map (pieces.Fixed k) claim other go holds = go holds
-plain_map (pieces.Any sort n) claim other go holds = go holds
-plain_map (pieces.Field w) claim other go holds = go holds
-plain_map pieces.Product claim other go holds = go holds
-plain_map pieces.EndOfProduct claim other go holds = tt
-
 pub if_one : (p : PatternPiece) (claim : Type 0) → ((w : ℕ) → p ≡ pieces.Field w → ⊥) → IfOne p claim → claim
 if_one (pieces.Symbol n k) claim no_field holds = holds
 if_one (pieces.Whole n m) claim no_field holds = holds

@@ -36,10 +36,6 @@ is_in kind value set = list_any (is_same value) (values_in (λ n. name_value kin
 abbrev pub asked_wild : Kind → ℕ → List Elements → List Piece → Option (List Binding)
 asked_wild kind w sets value = if list_all (λ set. is_in kind value set) sets then Some (record { wildcard = wildcards.Name w; value = value } ∷ []) else None
 
--- what a name asks that stands for itself
-abbrev pub asked_itself : Bool → Option (List Binding)
-asked_itself is_it = if is_it then Some [] else None
-
 -- the choice of a power of a symbol by the place of that symbol, and so on
 abbrev pub symbol_at : Host → Name → ℤ → ℕ → Option Choice
 symbol_at h n k c = option_and_then (λ p. symbol_choice h.is_exact n k p) (slice_get h.term.symbols c)

@@ -63,10 +63,6 @@ live_held (None ∷ runs) zero held live is = cc
 live_held (Some bytes ∷ runs) zero held live is = ap is_some is
 live_held (x ∷ runs) (suc run) held live is = live_held runs run held live is
 
--- a vector has fewer than 2^63 bytes
-pub length_vec_small : {A : Type 0} (bytes : Vec ℕ A) → length bytes.items < 2 ^ 63
-length_vec_small bytes = omega (arith, bytes.ok, bytes.small)
-
 -- a held run has fewer than 2^63 bytes, where each vector has
 small_held : {A : Type 0} (held : Option (Vec ℕ A)) → IfSome held (λ bytes. length bytes.items < 2 ^ 63) → length (unwrap_or (held_bytes held) []) < 2 ^ 63
 small_held None small = lit< tt

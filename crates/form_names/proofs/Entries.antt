@@ -15,7 +15,7 @@ use Rattle.form_names.specs.declared.kind.Kind.{Kind}
 use Rattle.form_names.specs.declared.kind.Kind.TheVariants as kinds
 use Rattle.form_names.specs.declared.kind.Dimension.{Dimension}
 use Rattle.form_names.specs.declared.kind.Dimension.TheVariants as dimensions
-use Rattle.form_names.specs.Names.{Entry, entry_of, entries_of, lookup, kind_at, elements_at, dimension_of, IsDimension, IsKind, IsNameAlike, AreElements, IsLawful, AreLawful}
+use Rattle.form_names.specs.Names.{Entry, entry_of, entries_of, lookup, kind_at, elements_at, dimension_of, IsDimension, IsNameAlike, AreElements, IsLawful, AreLawful}
 
 pub prefix_len-keys : {A : Type 0} (name : List ℕ) (pairs : List (String A × Facts)) → prefix_len (λ key. not (bytes_eq name (string_bytes key))) (keys_of pairs) ≡ prefix_len (λ entry. not (bytes_eq name entry.name)) (entries_of pairs)
 prefix_len-keys name [] = refl
@@ -102,19 +102,6 @@ lawful-push names e h k =
     All-push (IsLawful (names ++ e ∷ [])) names e
     (All-weaker (IsLawful names) (IsLawful (names ++ e ∷ [])) (lawful-append names (e ∷ [])) names h)
     (lawful-append names (e ∷ []) e k)
-
--- what is no set, declared as it may be
-pub lawful-kind : (names : List Entry) (name : List ℕ) (kind : Kind) → IsKind names kind → IsLawful names (entry_of name (record { kind = kind; elements = None }))
-lawful-kind names name kind h = record { dimension = by kind h; elements = tt }
-  where
-    by : (kind : Kind) → IsKind names kind → IfSome (dimension_of kind) (IsDimension names)
-    by kinds.Symbol h = tt
-    by kinds.Vector h = tt
-    by (kinds.Index d) h = h
-    by kinds.Function h = tt
-    by kinds.CommutingFunction h = tt
-    by kinds.Expression h = tt
-    by kinds.Set h = tt
 
 -- the name at a place is lawful
 pub kind-lawful : (all names : List Entry) (id : ℕ) (kind : Kind) → All (IsLawful all) names → kind_at names id ≡ Some kind → IfSome (dimension_of kind) (IsDimension all)

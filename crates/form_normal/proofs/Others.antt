@@ -29,10 +29,6 @@ shallow_all : (n : ℕ) (cs : List Call) → AllByRecursion (IsShallow n) cs →
 shallow_all n [] h = omega arith
 shallow_all n (c ∷ cs) h = let rest = shallow_all n cs h.1 in omega (arith, h.0, rest)
 
-sum_append : (ms ns : List ℕ) → sum (ms ++ ns) ≡ sum ms + sum ns
-sum_append [] ns = omega arith
-sum_append (m ∷ ms) ns = let e = sum_first m (ms ++ ns) in let f = sum_first m ms in let rest = sum_append ms ns in omega (arith, e, f, rest)
-
 pub sizes_append : (cs ds : List Call) → sum (map size_of_call (cs ++ ds)) ≡ sum (map size_of_call cs) + sum (map size_of_call ds)
 sizes_append [] ds = omega arith
 sizes_append (c ∷ cs) ds =

@@ -45,9 +45,6 @@ pub record Placing (cs rest : List Call) (c : Call) : Type 0 where
   pub rises : RisesBy call_order rest
   pub within : length rest ≤ length cs
 
-pub placing_begins : (cs : List Call) (c : Call) → RisesBy call_order cs → Placing cs cs c
-placing_begins cs c rise = record { place = refl; rises = rise; within = omega arith }
-
 module _ (cs rest others : List Call) (last c : Call) (is : rest ≡ others ++ last ∷ []) (h : Placing cs rest c) where
   split : Placing cs (others ++ last ∷ []) c
   split = rw is at h
@@ -63,7 +60,3 @@ module _ (cs rest others : List Call) (last c : Call) (is : rest ≡ others ++ l
   placing_ends e =
       let each = upto_last call_order call_order_total others last c split.rises (not_true (is_gt (call_order last c)) e) in
       ap length is ∙ prefix_all (λ other. is_upto other c) (others ++ last ∷ []) (all_map (λ z. is_gt (call_order z c) ≡ false) (λ z. is_upto z c ≡ true) (λ z k. ap not k) (others ++ last ∷ []) each) ∙ split.place
-
-pub placing_none : (cs rest : List Call) (c : Call) → length rest ≡ 0 → Placing cs rest c → 0 ≡ prefix_len (λ other. is_upto other c) cs
-placing_none cs [] c e h = h.place
-placing_none cs (r ∷ rs) c e h = absurd (omega (arith, e))

@@ -7,7 +7,7 @@ use Rattle.std.proofs.lemmas.List.Elements.{All-nil, All-cons, All-head, All-tai
 use Rattle.form_term.specs.declared.power.Power.{Power}
 use Rattle.form_term.specs.Term.{Term, RiseFrom, of_symbols, exponent_in, reach_of}
 use Rattle.form_term.specs.PowerLaws.{absent_before, absent_past, powers_agree, powers_wider, rise_lower, powers_again, exponent_again}
-use Rattle.form_normal.specs.Factors.{IsPresent, IsInRange, IsProductive}
+use Rattle.form_normal.specs.Factors.{IsPresent, IsInRange}
 use Rattle.form_normal.specs.Product.{symbols_product, exponent_sum, reach_of_all}
 
 zero_plus : (x : ℤ) → pos 0 +ℤ x ≡ x
@@ -55,19 +55,6 @@ pub record Merging (left right out ls rs : List Power) : Type 0 where
   pub right_present : All IsPresent rs
   pub left_in_range : All IsInRange ls
   pub right_in_range : All IsInRange rs
-
-pub merging_begins : (left right : List Power) → IsProductive left → IsProductive right → Merging left right [] left right
-merging_begins left right l r = record {
-  sums = λ symbol. zero_plus (exponent_in left symbol +ℤ exponent_in right symbol);
-  out_rise = tt;
-  left_rise = l.rising;
-  right_rise = r.rising;
-  out_present = All-nil IsPresent;
-  left_present = l.present;
-  right_present = r.present;
-  left_in_range = l.in_range;
-  right_in_range = r.in_range;
-}
 
 -- the sides change places
 swapped : (left right out ls rs : List Power) → Merging left right out ls rs → Merging right left out rs ls

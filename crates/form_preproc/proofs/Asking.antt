@@ -1,5 +1,5 @@
 -- What is asked for stays plain.
-use Rattle.std.proofs.Common.{◌≡◌, ℕ, suc, Bool, true, false, cond, List, [], ◌∷◌, ◌++◌, length, drop, Option, Some, None, Result, Ok, Err, IfOk, IfSome, OnOk, refl, sym, ap, ◌∙◌, subst, get_or}
+use Rattle.std.proofs.Common.{◌≡◌, ℕ, suc, cond, List, [], ◌∷◌, ◌++◌, length, drop, Option, Some, None, Result, Ok, Err, IfOk, IfSome, OnOk, sym, ap, ◌∙◌, subst}
 use Rattle.std.specs.Prelude.{◌==◌, nat_le, All}
 use Rattle.std.specs.List.{AllByRecursion}
 use Rattle.std.specs.Str.{bytes_eq}
@@ -9,20 +9,19 @@ use Rattle.form_base.specs.declared.cause.Cause.TheVariants.{BadInstruction, Lin
 use Rattle.form_calc.specs.Stack.{oldest}
 use Rattle.form_lines.specs.Program.{most_lines, after_blanks, begins_with_end}
 use Rattle.form_lines.specs.Text.{IsPlain}
-use Rattle.form_preproc.proofs.Plain.{either, and_so, put_in_plain, calculated_plain, keyed_plain, trimmed_plain, all_dropped, definition_plain, without_empty_plain, call_plain, HeadIsPlain, looped_plain, next_plain, NextIsPlain, LoopIsPlain, TurnsArePlain}
+use Rattle.form_preproc.proofs.Plain.{either, and_so, put_in_plain, calculated_plain, keyed_plain, trimmed_plain, all_dropped, definition_plain, without_empty_plain, call_plain, HeadIsPlain, looped_plain, next_plain, NextIsPlain, LoopIsPlain}
 use Rattle.form_preproc.specs.Block.{Line, key_in}
 use Rattle.form_preproc.specs.Braces.{calculated}
 use Rattle.form_preproc.specs.Bytes.{trimmed, is_name}
-use Rattle.form_preproc.specs.Expansion.{Place, Stored, State, Ending, goes, ends, stops, After, branch, included, turn, fetched, called, Request, finished, inside, tries, place_of, stopped, counted, given, formed, prepared, instructed, with_values, handing, handed_on, defined, redefined, undefined, storing, nothing_behind, procedure_of, with_arguments, fitting, entering, entering_with, turning, turning_in, loop_of, looping, alone_at, resumed, begun}
-use Rattle.form_preproc.specs.Instruction.{definition, procedure_head, call_head, looped, next_value, without_empty}
+use Rattle.form_preproc.specs.Expansion.{Place, Stored, State, Ending, goes, ends, stops, After, branch, included, turn, fetched, called, Request, finished, inside, tries, place_of, stopped, counted, given, formed, prepared, instructed, with_values, handing, handed_on, defined, redefined, undefined, storing, nothing_behind, procedure_of, with_arguments, fitting, entering, turning, turning_in, loop_of, alone_at, resumed, begun}
+use Rattle.form_preproc.specs.Instruction.{definition, procedure_head, call_head, looped, next_value}
 use Rattle.form_preproc.specs.Key.{behind_key}
-use Rattle.form_preproc.specs.Kept.{kept_in}
 use Rattle.form_preproc.specs.Machine.{state_of, calls_of, lines_of, after_of, IsDone}
 use Rattle.form_preproc.specs.PlainTexts.{ArePlain}
 use Rattle.form_preproc.specs.Plainness.{HandedArePlain, ValuesArePlain, MachineIsPlain, AfterIsPlain, IsPlainAction, FramesArePlain, ExpanderIsPlain}
 use Rattle.form_preproc.specs.Putting.{put_in}
 use Rattle.form_preproc.specs.Stepping.{IsFollowed}
-use Rattle.form_preproc.specs.Variables.{Values, Heights, first_heights, with_stack, pushed, uncovered, cut_back, all_cut, height_of}
+use Rattle.form_preproc.specs.Variables.{Values, Heights, first_heights, with_stack, pushed, uncovered, cut_back, height_of}
 use Rattle.form_preproc.specs.declared.expander.Expander.{Expander}
 use Rattle.form_preproc.specs.declared.expander.Step.{Step}
 use Rattle.form_preproc.specs.declared.frame.Action.{Action}
@@ -37,7 +36,6 @@ use Rattle.form_preproc.specs.declared.key.Key.TheVariants as key
 use Rattle.form_preproc.specs.declared.machine.Machine.{Machine}
 use Rattle.form_preproc.specs.declared.stop.ExpandError.{ExpandError}
 use Rattle.form_preproc.specs.declared.stop.StopError.{StopError}
-use Rattle.form_preproc.specs.declared.turns.Looped.{Looped}
 use Rattle.form_preproc.specs.declared.turns.Turns.{Turns}
 
 abbrev pub StateIsPlain : State → Type 0
@@ -198,10 +196,6 @@ pub called_plain : (values : Values) (text known : List ℕ) (k : Key) (head : H
 called_plain values text known k head v t is_known is_call =
     let p : IsPlain known = subst (λ (r : Result (List ℕ) Cause). IfOk r IsPlain) is_known (prepared_plain values text v t) in
     subst (λ (o : Option Head). IfSome o HeadIsPlain) is_call (call_plain (trimmed (behind_key k known)) (trimmed_plain (behind_key k known) (keyed_plain k known p)))
-
--- the same values and lines
-pub same_plain : (old new : Machine) → new.variables ≡ old.variables → new.handed ≡ old.handed → MachineIsPlain old → MachineIsPlain new
-same_plain old new v h p = (subst (λ x. ValuesArePlain (kept_in x).values) (sym v) p.0, subst HandedArePlain (sym h) p.1)
 
 -- nothing is kept yet
 pub begun_plain : (m : Machine) (file : List ℕ) → state_of m ≡ begun file → MachineIsPlain m

@@ -1,13 +1,9 @@
 -- Cutting stacks, one after another.
-use Rattle.std.proofs.Common.{◌≡◌, ◌≢◌, ◌⊎◌, inl, inr, ℕ, zero, suc, ◌+◌, ◌<◌, ◌≤◌, Bool, true, false, cond, eqb, List, [], ◌∷◌, ◌++◌, length, drop, set, get_or, refl, sym, ap, ◌∙◌, arith, get_or-set_same, get_or-set_other}
-use Rattle.std.proofs.Math.ListN.{length-set}
-use Rattle.std.proofs.Math.Seq.{drop-length}
-use Rattle.std.proofs.lemmas.Bool.{eqb-true, eq-eqb}
-use Rattle.std.proofs.lemmas.List.{get_or_past}
-use Rattle.std.proofs.lemmas.List.Sums.{sum_by-set}
+use Rattle.std.proofs.Common.{◌≡◌, ◌⊎◌, inl, inr, ℕ, ◌+◌, ◌<◌, ◌≤◌, Bool, true, false, cond, eqb, List, [], ◌∷◌, ◌++◌, length, get_or, refl, sym, ap, ◌∙◌, arith}
+use Rattle.std.proofs.lemmas.Bool.{eqb-true}
 use Rattle.form_calc.specs.Stack.{oldest}
 use Rattle.form_preproc.specs.Journal.{height_before, AreFirsts}
-use Rattle.form_preproc.specs.Places.{AreCut, AreEmpty, IsCut, number_of_values}
+use Rattle.form_preproc.specs.Places.{AreCut, IsCut, number_of_values}
 use Rattle.form_preproc.specs.declared.journal.Change.{Change}
 use Rattle.form_preproc.proofs.Changes.{before_cons, before_nil}
 use Rattle.form_preproc.proofs.Stacks.{length-oldest, none_to_cut}
@@ -82,43 +78,7 @@ all_are_cut changes done firsts old new cut is size f h = record {
 
 -- ---- no value is left
 
-below_or_not : (k place : ℕ) → (k < place) ⊎ (place ≤ k)
-below_or_not k zero = inr (omega arith)
-below_or_not zero (suc place) = inl (omega arith)
-below_or_not (suc k) (suc place) = by (below_or_not k place)
-  where
-    by : ((k < place) ⊎ (place ≤ k)) → (suc k < suc place) ⊎ (suc place ≤ suc k)
-    by (inl lt) = inl (omega (arith, lt))
-    by (inr le) = inr (omega (arith, le))
-
 pub record AreEmptyTo (place : ℕ) (old new : List (List (List ℕ))) : Type 0 where
   pub same : length new ≡ length old
   pub empty : (k : ℕ) → k < place → get_or new k [] ≡ []
   pub fewer : number_of_values new ≤ number_of_values old
-
-pub emptied_more : (place : ℕ) (old new : List (List (List ℕ))) (read written : List (List ℕ)) → place < length new → written ≡ oldest 0 read → AreEmptyTo place old new → AreEmptyTo (suc place) old (set new place written)
-emptied_more place old new read written lt is h = record {
-  same = length-set new place written ∙ h.same;
-  empty = λ k le. by k le (eqb place k) refl;
-  fewer = omega (arith, h.fewer, sum_by-set length new place written [] lt, ap length none);
-}
-  where
-    none : written ≡ []
-    none = is ∙ ap (λ k. drop k read) (omega arith) ∙ drop-length read
-
-    by : (k : ℕ) → k < suc place → (b : Bool) → eqb place k ≡ b → get_or (set new place written) k [] ≡ []
-    by k le true e = ap (λ i. get_or (set new place written) i []) (sym (eqb-true place k e)) ∙ get_or-set_same new place written [] lt ∙ none
-    by k le false e =
-        let apart : k ≢ place = λ q. (let yes : eqb place k ≡ true = eq-eqb place k (sym q) in
-        let no_way : true ≡ false = sym yes ∙ e in cc) in
-        get_or-set_other new place k written [] apart ∙ h.empty k (omega (arith, le, apart))
-
-pub all_empty : (place : ℕ) (old new : List (List (List ℕ))) → length old ≤ place → AreEmptyTo place old new → AreEmpty old new
-all_empty place old new size h = record { same = h.same; each = λ k. by k }
-  where
-    by_side : (k : ℕ) → ((k < place) ⊎ (place ≤ k)) → get_or new k [] ≡ []
-    by_side k (inl lt) = h.empty k lt
-    by_side k (inr le) = get_or_past new k [] (omega (arith, size, h.same, le))
-
-    by : (k : ℕ) → get_or new k [] ≡ []
-    by k = by_side k (below_or_not k place)

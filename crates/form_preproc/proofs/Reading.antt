@@ -1,10 +1,10 @@
 -- Reading a line of which only the names are kept once it is too long.
-use Rattle.std.proofs.Common.{◌≡◌, ◌≢◌, ℕ, ◌<◌, ◌≤◌, suc, Bool, true, false, cond, eqb, ltb, List, [], ◌∷◌, ◌++◌, length, drop, get_or, Some, None, Result, Ok, Err, refl, sym, ap, ◌∙◌, subst, arith, length-append}
+use Rattle.std.proofs.Common.{◌≡◌, ◌≢◌, ℕ, ◌<◌, ◌≤◌, suc, Bool, true, false, cond, eqb, ltb, List, [], ◌∷◌, ◌++◌, length, drop, get_or, Some, Result, Ok, Err, refl, sym, ap, ◌∙◌, subst, arith, length-append}
 use Rattle.std.proofs.Math.Seq.{drop-cons}
 use Rattle.std.proofs.lemmas.Bool.{lt-ltb, eqb-true}
 use Rattle.form_lines.specs.Program.{most_bytes}
 use Rattle.form_base.specs.declared.cause.Cause.{Cause}
-use Rattle.form_base.specs.declared.cause.Cause.TheVariants.{LineLimit, UnknownVar}
+use Rattle.form_base.specs.declared.cause.Cause.TheVariants.{LineLimit}
 use Rattle.form_preproc.specs.Variables.{Values, newest}
 use Rattle.form_preproc.specs.Putting.{and_then, step, closed, valued, opened, with_byte, begun, read, put_in, end_of, end_in}
 use Rattle.form_preproc.specs.Answers.{Gives}
@@ -38,16 +38,6 @@ passed_quote values p q left like none empty = by p.text p.outer q.text q.outer 
     by text [] kept (k ∷ others) h e = absurd h
     by text (before ∷ outer) kept [] h e = absurd h
     by text (before ∷ outer) kept (k ∷ others) h e = absurd cc
-
--- a name without a value
-pub passed_unknown : (values : Values) (p q : Putting) (before : List ℕ) (others : List (List ℕ)) → IsLike p q → q.outer ≡ before ∷ others → newest values q.text ≡ None → closed values p.text p.outer ≡ Err (UnknownVar q.text)
-passed_unknown values p q before others like is none = by p.text p.outer q.text q.outer like is none
-  where
-    by : (text : List ℕ) (outer : List (List ℕ)) (kept : List ℕ) (rest : List (List ℕ)) → LikeIn text outer kept rest → rest ≡ before ∷ others → newest values kept ≡ None → closed values text outer ≡ Err (UnknownVar kept)
-    by text [] kept [] h e n = absurd cc
-    by text [] kept (k ∷ rest) h e n = absurd h
-    by text (b ∷ outer) kept [] h e n = absurd h
-    by text (b ∷ outer) kept (k ∷ rest) h e n = ap (λ t. valued t b outer (newest values t)) h.0 ∙ ap (valued kept b outer) n
 
 -- a name within others
 pub passed_inner : (values : Values) (p q kept : Putting) (before value : List ℕ) (others : List (List ℕ)) → IsLike p q → q.outer ≡ before ∷ others → 0 < length others → newest values q.text ≡ Some value
@@ -112,15 +102,6 @@ passed_letter p q kept byte like some outer_is text_is = by p.text p.outer q.tex
     by text (b ∷ outer) old (k ∷ others) new left h s o t = subst (λ (xs : List (List ℕ)). LikeIn (text ++ byte ∷ []) (b ∷ outer) new xs) (sym o) (ap (λ u. u ++ byte ∷ []) h.0 ∙ sym t, h.1)
 
 -- ---- the end
-
-pub long_ends : (p q : Putting) (text : List ℕ) → IsLike p q → end_of q ≡ Ok text → end_of p ≡ Err LineLimit
-long_ends p q text like is = by p.text p.outer q.text q.outer like is
-  where
-    by : (t : List ℕ) (outer : List (List ℕ)) (kept : List ℕ) (others : List (List ℕ)) → LikeIn t outer kept others → end_in kept others ≡ Ok text → end_in t outer ≡ Err LineLimit
-    by t [] kept [] h e = rw (lt-ltb most_bytes (length t) h) refl
-    by t [] kept (k ∷ others) h e = absurd h
-    by t (b ∷ outer) kept [] h e = absurd h
-    by t (b ∷ outer) kept (k ∷ others) h e = absurd cc
 
 pub long_fails : (p q : Putting) (cause : Cause) → IsLike p q → end_of q ≡ Err cause → end_of p ≡ Err cause
 long_fails p q cause like is = by p.text p.outer q.text q.outer like is

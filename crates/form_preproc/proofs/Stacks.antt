@@ -332,9 +332,6 @@ ended_none places more old new changes after marks calls none too alike empty =
     by None = refl
     by (Some place) = empty.each place ∙ sym (drop-length (get_or old place [])) ∙ ap (λ k. drop k (get_or old place [])) (omega arith)
 
-pub places_same : (places : Places) (old new : Stacks) → length new ≡ length old → ArePlaces places old → ArePlaces places new
-places_same places old new same h = record { within = λ name place is. omega (arith, same, h.within name place is); distinct = h.distinct }
-
 pub below_same : (old new : Stacks) (changes : List Change) → length new ≡ length old → AreBelow (length old) changes → AreBelow (length new) changes
 below_same old new changes same h = λ place le. h place (omega (arith, same, le))
 

@@ -1,18 +1,15 @@
 -- What one step does, by what was asked for.
-use Rattle.std.proofs.Common.{◌≡◌, ◌≤◌, ◌<◌, ◌+◌, ◌-◌, ◌*◌, arith, ℕ, zero, suc, Bool, true, false, cond, List, [], ◌∷◌, drop, refl, sym, ap, ◌∙◌, subst, Option, Some, None, Result, Ok, Err, IfSome, OnOk}
+use Rattle.std.proofs.Common.{◌≡◌, ◌≤◌, ◌<◌, ◌+◌, ◌-◌, ◌*◌, arith, ℕ, zero, suc, Bool, true, false, cond, List, [], ◌∷◌, drop, refl, sym, ap, ◌∙◌, subst, Option, Some, None, Result, Ok, Err, IfSome}
 use Rattle.form_outside.specs.Texts.{Texts}
-use Rattle.form_lines.specs.Program.{most_lines}
 use Rattle.form_preproc.proofs.Continuing.{over_goes, over_ends, over_stops, over_enters, line_goes, line_ends, line_stops, line_enters}
 use Rattle.form_preproc.specs.Block.{Line, key_in, is_closer, is_opening, to_end}
-use Rattle.form_preproc.specs.Expansion as expansion
-use Rattle.form_preproc.specs.Expansion.{State, Ending, goes, ends, stops, refused, too_long, Request, finished, inside, Does, requested, requested_at, behind, resumed, depth_in, is_over}
+use Rattle.form_preproc.specs.Expansion.{Ending, goes, ends, stops, refused, too_long, Request, finished, inside, Does, requested, requested_at, behind, resumed, depth_in, is_over}
 use Rattle.form_preproc.specs.Frames.{Running, running, depth_of, Continues}
 use Rattle.form_preproc.specs.Machine.{state_of, calls_of, line_of, behind_place, lines_of, after_of, calls_behind, IsDone, AreKept, AreKeptOver, LeadsOver}
-use Rattle.form_preproc.specs.Stepping.{IsStopped, IsStepped, IsFollowed, IsSmaller, depth_inside, depth_now, weight_of, weights, entered, left, rank}
+use Rattle.form_preproc.specs.Stepping.{IsStopped, IsStepped, IsFollowed, depth_inside, depth_now, left}
 use Rattle.form_preproc.specs.Variables.{Heights, first_heights}
 use Rattle.form_preproc.specs.declared.expander.Expander.{Expander}
 use Rattle.form_preproc.specs.declared.expander.Step.{Step}
-use Rattle.form_preproc.specs.declared.expander.Step.TheVariants as step
 use Rattle.form_preproc.specs.declared.frame.Action.{Action}
 use Rattle.form_preproc.specs.declared.frame.Action.TheVariants.{Goes, Ends, Enters}
 use Rattle.form_preproc.specs.declared.frame.After.{After}
@@ -176,40 +173,5 @@ module _ (texts : Texts) (lines : List Line) (depth : ℕ) (o : is_over lines �
 
 -- ---- what is left to do
 
-light : (a : After) → weight_of a ≤ 2
-light Branch = omega arith
-light Included = omega arith
-light (Turn t) = omega arith
-light (Fetched f) = omega arith
-light Called = omega arith
-
-pub entered_light : (action : Action) → entered action ≤ 2
-entered_light Goes = omega arith
-entered_light Ends = omega arith
-entered_light (Enters e) = light e.after
-
 fewer : (most old new : ℕ) → old < new → new ≤ most → 3 * (most - new) + 2 < 3 * (most - old)
 fewer most old new h few = omega arith
-
-below_two : (a b c : ℕ) → b ≤ 2 → a + 2 < c → a + b < c
-below_two a b c h f = omega arith
-
-sum_below : (a z bound w : ℕ) → a + z < bound → a + w < bound + w
-sum_below a z bound w h = omega arith
-
-sum_under : (a e bound w : ℕ) → a + e < bound → a + (e + w) < bound + w
-sum_under a e bound w h = omega arith
-
--- a line that has acted counts more than what it begins
-pub acted_smaller : (old new : ℕ) (action : Action) → old < new → new ≤ most_lines → left new + entered action < left old
-acted_smaller old new action h few =
-    let f : left new + 2 < left old = fewer most_lines old new h few in
-    below_two (left new) (entered action) (left old) (entered_light action) f
-
--- the frames weigh what was entered and what they weighed
-pub followed_rank : (old : Expander) (action : Action) (result : Result Step ExpandError) (new : Expander) (bound : ℕ) → IsFollowed old action result new
-    → left old.machine.acted + entered action < bound → OnOk result (rank new < bound + weights old.frames)
-followed_rank old Goes result new bound followed h = rw (followed.0, followed.1) (sum_below (left old.machine.acted) 0 bound (weights old.frames) h)
-followed_rank old Ends result new bound followed h = rw (followed.0, followed.1) (sum_below (left old.machine.acted) 0 bound (weights old.frames) h)
-followed_rank old (Enters e) (Ok done) new bound followed h = rw followed.1 (sum_under (left old.machine.acted) (weight_of e.after) bound (weights old.frames) h)
-followed_rank old (Enters e) (Err error) new bound followed h = tt

@@ -1,5 +1,5 @@
 -- What is kept while lines act, and what they do to it.
-use Rattle.std.specs.Prelude.{◌≡◌, ◌<◌, ◌≤◌, ℕ, suc, List, [], ◌∷◌, ◌++◌, length, drop, map, Option, Some, None, Result, Ok, Err, IfSome}
+use Rattle.std.specs.Prelude.{◌≡◌, ◌<◌, ◌≤◌, ℕ, suc, List, [], ◌∷◌, ◌++◌, length, drop, Option, Some, None, Result, Ok, Err, IfSome}
 use Rattle.form_base.specs.declared.cause.Cause.{Cause}
 use Rattle.form_lines.specs.Program.{most_lines}
 use Rattle.form_preproc.specs.Block.{Line, placed, taken_up}
@@ -105,10 +105,6 @@ IsDoneOver r (Err Library) m = Unit {0}
 abbrev pub AreKeptOver : List Heights → Result Action ExpandError → Machine → Type 0
 AreKeptOver calls (Ok action) m = AreKept calls (Ok action) m
 AreKeptOver calls (Err error) m = Unit {0}
-
-abbrev pub IsCountedOver : ℕ → Result Action ExpandError → ℕ → Type 0
-IsCountedOver old (Ok action) new = IsCounted old (Ok action) new
-IsCountedOver old (Err error) new = Unit {0}
 
 -- what is asked for then, where it is told
 abbrev pub met : Result Action StopError → Machine → Option Request

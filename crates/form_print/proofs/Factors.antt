@@ -160,10 +160,6 @@ simple_put names p shown before opened k rest h e =
     one_put names before p opened k (p ∷ []) shown rest h.factor
     (h.put before opened rest ∙ ap (λ c. (before_factor before c ++ shown) ++ onward names p opened rest) e)
 
-imaginary_passed : (b : Bool) (rest : List Piece) → coefficient_in 0 ((if b then pieces.Imaginary ∷ [] else []) ++ rest) ≡ coefficient_in 0 rest
-imaginary_passed true rest = refl
-imaginary_passed false rest = refl
-
 imaginary_put : (names : List Entry) (b : Bool) (before : Piece) (opened : List ℕ) (k : Fraction) (rest : List Piece) → coefficient_in 0 rest ≡ k → ArePut names before opened k (if b then pieces.Imaginary ∷ [] else []) (imaginary_texts b) rest
 imaginary_put names true before opened k rest e = simple_put names pieces.Imaginary (codes "i_") before opened k rest (the_imaginary names) e
 imaginary_put names false before opened k rest e = none_put names before opened k rest

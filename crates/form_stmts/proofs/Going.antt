@@ -105,17 +105,6 @@ none_begun : (tokens : List Token) → None ≡ first_spot tokens → tokens ≡
 none_begun [] e = refl
 none_begun (t ∷ ts) e = cc
 
--- a line that begins with a period is refused where a statement is begun
-pub unfinished_refused : (old : Reader) (line : PlacedLine) (spot : Spot) → Some spot ≡ first_spot old.tokens.items → Refuses old (period line ∷ []) (BadSyntax spot)
-unfinished_refused old line spot e lexed rest to =
-    subst (λ (all : List Item). IsRefusedAt [] all spot) (all_behind lexed rest (period line))
-    (by_begun to.begun (e ∙ sym (first_begun old.tokens.items to.begun old.right_side to.has_begun)) (to.refused (period line ∷ rest) spot))
-  where
-    by_begun : (begun : List Token) → Some spot ≡ first_spot begun → (IsRefusedAt old.statements.items (items begun (period line ∷ rest)) spot → IsRefusedAt [] (items [] (lexed ++ period line ∷ rest)) spot)
-        → IsRefusedAt [] (items [] (lexed ++ period line ∷ rest)) spot
-    by_begun [] e r = cc
-    by_begun (t ∷ ts) e r = r (inl ((λ h. h.1), sym (same_Some spot t.spot e)))
-
 module _ (old : Reader) (line : PlacedLine) (none : None ≡ first_spot old.tokens.items) where
   no_begun : (begun : List Token) → HasBegun old begun → begun ≡ []
   no_begun begun h = none_begun begun (none ∙ sym (first_begun old.tokens.items begun old.right_side h))

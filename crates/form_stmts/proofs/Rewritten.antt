@@ -23,10 +23,6 @@ use Rattle.form_stmts.proofs.Trees.{TreeLaws}
 abbrev Sides : Type 0
 Sides = List Terminal × List Terminal
 
-pub with_nothing : (o : Option Sides) → with_left [] o ≡ o
-with_nothing None = refl
-with_nothing (Some s) = refl
-
 with_one_more : (front : List Terminal) (t : Terminal) (o : Option Sides) → with_left front (with_left (t ∷ []) o) ≡ with_left (front ++ t ∷ []) o
 with_one_more front t None = refl
 with_one_more front t (Some s) = ap (λ (l : List Terminal). Some (l, s.1)) (sym (append_assoc front (t ∷ []) s.0))

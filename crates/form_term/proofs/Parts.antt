@@ -32,9 +32,6 @@ first_joined : (p : Piece) (k : ℕ) (parts : List (List Piece)) → first_lengt
 first_joined p k [] = refl
 first_joined p k (part ∷ parts) = let e : suc (length part) ≡ length part + 1 = omega arith in e
 
-pub first_more : (level k : ℕ) (p : Piece) (ps : List Piece) → level_behind level p ≡ suc k → first_length (parts_from level (p ∷ ps)) ≡ first_length (parts_from (suc k) ps) + 1
-first_more level k p ps e = ap (λ n. first_length (joined p n (parts_from n ps))) e ∙ first_joined p k (parts_from (suc k) ps)
-
 pub first_ends : (level : ℕ) (p : Piece) (ps : List Piece) → level_behind level p ≡ 0 → first_length (parts_from level (p ∷ ps)) ≡ 1
 first_ends level p ps e = ap (λ n. first_length (joined p n (parts_from n ps))) e
 

@@ -2,12 +2,12 @@
 use Rattle.std.proofs.Common.{◌≡◌, ◌≢◌, ℕ, zero, suc, ◌+◌, ◌-◌, ◌<◌, ◌≤◌, Bool, true, false, List, [], ◌∷◌, map, refl, ap, sym, ◌∙◌, ◌↔◌, arith, rules, eqb}
 use Rattle.std.specs.Prelude.{All, max, IsTrue, ℤ, pos, nat_abs}
 use Rattle.std.specs.List.{range_with_len}
-use Rattle.std.specs.Ordering.{int_cmp, ordering_then, ordering_reverse, eq_by_cmp}
-use Rattle.std.specs.Cmp.{IsTotalOrder, IsEquivalence, Equal-is}
+use Rattle.std.specs.Ordering.{int_cmp, ordering_then, ordering_reverse}
+use Rattle.std.specs.Cmp.{IsTotalOrder}
 use Rattle.std.specs.Cmp.Lexicographic.{slice_cmp}
 use Rattle.std.specs.declared.cmp.Ordering.{Ordering}
 use Rattle.std.specs.declared.cmp.Ordering.TheVariants.{Less, Equal, Greater}
-use Rattle.std.proofs.lemmas.Cmp.{lists_total, int_cmp_total, tied_itself, tied_back, eq_by_cmp_equiv}
+use Rattle.std.proofs.lemmas.Cmp.{lists_total, int_cmp_total, tied_itself, tied_back}
 use Rattle.std.proofs.lemmas.Bool.{eqb-true, eqb-false, eq-eqb}
 use Rattle.std.proofs.lemmas.Map.Lookups.{exact_signed}
 use Rattle.form_term.specs.declared.power.Power.{Power}
@@ -142,16 +142,8 @@ first_difference t u first agree differ =
     let n = reach_of t + reach_of u + suc first in
     order_reached t u n (omega arith) (omega arith) ∙ order_decided 0 n first (exponent_in t) (exponent_in u) (omega arith) (omega arith) (λ symbol from below. agree symbol below) differ
 
--- powers that the order doesn't tell apart are one
-pub same_powers : IsEquivalence (eq_by_cmp symbols_order)
-same_powers = eq_by_cmp_equiv symbols_order_total
-
 true_from : {b : Bool} → IsTrue b → b ≡ true
 true_from h = search rules
-
--- these have the same powers, by their exponents
-pub fed_alike : {X : Type 0} (feed : List Power → X) (t u : List Power) → IsTrue (eq_by_cmp symbols_order t u) → feed (normal_powers t) ≡ feed (normal_powers u)
-fed_alike feed t u same = ap feed (normal_same t u (exponents_equal t u ((Equal-is (symbols_order t u)).0 (true_from same))))
 
 -- powers compare equal exactly with themselves
 pub equal_exactly : (t u : List Power) → ArePowers t → ArePowers u → (symbols_order t u ≡ Equal) ↔ (t ≡ u)
