@@ -103,13 +103,13 @@ find_proved() {
     is_newest "$built" && copy_sources "$kept/sources" && is_newest "$built" && keep "$kept/proved" "$built" "$built" "$kept/sources"
 }
 
-# take_turn NAME WORDS: waits while another one has the lock of this name, and says so; all that is started from here holds it
+# take_turn FD NAME WORDS: waits while another one has the lock of this name, and says so; all that is started from here holds it
 take_turn() {
     command -v flock >/dev/null 2>&1 || return 0
-    exec 9>"$kept/$1"
-    flock -n 9 && return
-    say "$2"
-    flock 9
+    eval "exec $1>\"\$kept/\$2\""
+    flock -n "$1" && return
+    say "$3"
+    flock "$1"
 }
 
 # forget_gone: removes what was kept for checkouts that are no more
