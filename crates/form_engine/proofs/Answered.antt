@@ -6,9 +6,6 @@ use Rattle.form_base.specs.declared.status.Status.TheVariants.{Usage, Missing, T
 use Rattle.form_base.specs.Status.{code_of}
 use Rattle.form_check.specs.Program.{Program}
 use Rattle.form_outside.specs.Faults.{HasRisen, last_count}
-use Rattle.form_outside.specs.declared.sink.SinkErr.{SinkErr}
-use Rattle.form_outside.specs.Taken.{Takes}
-use Rattle.form_outside.proofs.Written.{Takes_error}
 use Rattle.form_engine.specs.Answer.{IsAnswerOutcome, IsEarly, Carries, nothing_more}
 use Rattle.form_engine.specs.Call.{IsStop}
 use Rattle.form_engine.specs.Outcome.{Outcome, IsProgramOutcome, refused}
@@ -20,17 +17,10 @@ use Rattle.form_engine.specs.declared.stop.Stop.TheVariants.{Library, Sink, Memo
 use Rattle.form_engine.proofs.Carried.{risen}
 use Rattle.form_engine.proofs.Refusals.{IsOfRun, of_modules}
 
--- the line of a refusal was stopped
-pub refusal_stopped : (old new : Option (List ℕ)) (answer : Answer) (status : Status) (error : SinkErr) (stop : Stop) → answer ≡ Refused status → Takes old (refused status).bytes new (Err error) →
-    (o : Outcome) × IsAnswerOutcome answer o × Carries old o new (Err stop)
-refusal_stopped old new answer status error stop is took =
-    (refused status, subst (λ (a : Answer). IsAnswerOutcome a (refused status)) (sym is) refl, Takes_error old new (refused status).bytes error stop took)
-
--- or put
-pub refusal_put : (old new : Option (List ℕ)) (answer : Answer) (status : Status) → answer ≡ Refused status → Takes {E = SinkErr} old (refused status).bytes new (Ok tt) →
-    (o : Outcome) × IsAnswerOutcome answer o × Carries old o new (Ok status)
-refusal_put old new answer status is took =
-    (refused status, subst (λ (a : Answer). IsAnswerOutcome a (refused status)) (sym is) refl, (took, refl))
+-- the line of a refusal was put, or stopped
+pub refusal_carried : (old new : Option (List ℕ)) (answer : Answer) (status : Status) (result : Result Status Stop) → answer ≡ Refused status → Carries old (refused status) new result →
+    (o : Outcome) × IsAnswerOutcome answer o × Carries old o new result
+refusal_carried old new answer status result is carried = (refused status, subst (λ (a : Answer). IsAnswerOutcome a (refused status)) (sym is) refl, carried)
 
 of_program : (settings : Settings) (p : Program) (o : Outcome) → IsProgramOutcome settings p o → IsOfRun o.status
 of_program settings p o is = of_modules settings p.names 1 p.modules [] o is

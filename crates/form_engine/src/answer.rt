@@ -1,6 +1,7 @@
 ghost use Rattle.std.specs.Prelude.{◌≡◌, ◌≢◌, ◌≤◌, ◌++◌, true, Err};
 ghost use Rattle.form_outside.specs.Faults.{HasRisen};
 ghost use Rattle.form_outside.specs.Taken.{Takes};
+ghost use Rattle.form_engine.specs.Answer.{Carries};
 ghost use Rattle.form_engine.specs.Outcome.{Outcome, refused};
 
 use crate::carry::carry_out;
@@ -19,7 +20,7 @@ pub enum Answer {
 }
 
 impl Answer {
-    ghost use Rattle.form_engine.specs.Answer.{Carries, IsAnswerOutcome, IsSoundAnswer};
+    ghost use Rattle.form_engine.specs.Answer.{IsAnswerOutcome, IsSoundAnswer};
 
     /// Carries the program out, or puts the line of the refusal into the sink. Answers the status.
     pub fn carry_out<O: Sink>(self, alloc: Global, out: &mut O) -> Result<Status, Stop>
@@ -33,17 +34,38 @@ impl Answer {
         ensures unfinished { O.is_finished out.new ≡ true → O.is_finished out.old ≡ true }
     {
         match self {
-            Answer::Runs(settings, program) => carry_out(alloc, &settings, &program, out),
-            Answer::Refused(status) => {
-                write_refusal(alloc, &status, out)?;
-                Ok(status)
+            Answer::Runs(settings, program) => {
+                let ended = carry_out(alloc, &settings, &program, out);
+                drop(program);
+                ended
             }
+            Answer::Refused(status) => refuse(alloc, status, out),
+        }
+    }
+}
+
+/// Puts the line of a refusal into the sink, and answers the status.
+#[tactic(auto, using(form_outside::proofs::Written::Takes_error))]
+pub fn refuse<O: Sink>(alloc: Global, status: Status, out: &mut O) -> Result<Status, Stop>
+    ensures carried { Carries (O.taken out.old) (refused status) (O.taken out.new) result }
+    ensures never_library { result ≢ Err Stop.Library }
+    ensures failed { result ≡ Err Stop.Sink → HasRisen (O.faults out.old) (O.faults out.new) }
+    ensures not_risen { result ≢ Err Stop.Sink → O.faults out.new ≡ O.faults out.old }
+    ensures never_falls { O.faults out.old ≤ O.faults out.new }
+    ensures unfinished { O.is_finished out.new ≡ true → O.is_finished out.old ≡ true }
+{
+    match write_refusal(alloc, &status, out) {
+        Ok(()) => Ok(status),
+        Err(error) => {
+            // (let go whole: variant by variant it would be proved anew at this exit)
+            drop(status);
+            Err(Stop::from(error))
         }
     }
 }
 
 /// Puts the line of a refusal into the sink.
-pub fn write_refusal<O: Sink>(alloc: Global, status: &Status, out: &mut O) -> Result<(), SinkErr>
+fn write_refusal<O: Sink>(alloc: Global, status: &Status, out: &mut O) -> Result<(), SinkErr>
     ensures taken { Takes (O.taken out.old) (refused status.now).bytes (O.taken out.new) result }
     ensures failed { result ≡ Err SinkErr.Failed → HasRisen (O.faults out.old) (O.faults out.new) }
     ensures not_risen { result ≢ Err SinkErr.Failed → O.faults out.new ≡ O.faults out.old }

@@ -161,6 +161,9 @@ fn finish<O: Sink>(alloc: Global, out: &mut O, status: Status) -> Result<Status,
 {
     match out.finish(alloc) {
         Ok(()) => Ok(status),
-        Err(error) => Err(Stop::from(error)),
+        Err(error) => {
+            drop(status);
+            Err(Stop::from(error))
+        }
     }
 }

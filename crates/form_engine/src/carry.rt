@@ -10,7 +10,7 @@ ghost use Rattle.form_engine.specs.Answer.{Carries, Stops};
 ghost use Rattle.form_engine.specs.Outcome.{Outcome, IsProgramOutcome};
 ghost use Rattle.form_engine.specs.Printed.{printed_module, printed_where};
 
-use crate::answer::write_refusal;
+use crate::answer::refuse;
 use crate::stop::Stop;
 use form_base::{Cause, Id, Name, Place, Settings, Status};
 use form_check::{Module, Program};
@@ -71,8 +71,7 @@ fn stop_at<O: Sink>(
     match error {
         ModuleError::Refused(cause, expression) => {
             let status = refusal(alloc, names, number, cause, expression)?;
-            write_refusal(alloc, &status, out)?;
-            Ok(status)
+            refuse(alloc, status, out)
         }
         ModuleError::Memory => Err(Stop::Memory),
     }

@@ -79,7 +79,11 @@ fn answer_to(alloc: Global, job: Job, expanded: Result<Expanded, FileError>) -> 
     ensures never_sink { result ≢ Err Stop.Sink }
 {
     match expanded {
-        Ok(expanded) => Ok(answer_to_lines(alloc, job.settings, &expanded)?),
+        Ok(expanded) => {
+            let answer = answer_to_lines(alloc, job.settings, &expanded);
+            drop(expanded);
+            Ok(answer?)
+        }
         Err(FileError::Missing) => Ok(Answer::Refused(Status::Missing(job.file))),
         Err(FileError::TooLong(name)) => Ok(Answer::Refused(Status::TextTooLong(name))),
         Err(FileError::Refused(cause, file, line)) => Ok(refused_at(file, cause, line)),

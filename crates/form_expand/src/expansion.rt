@@ -84,12 +84,12 @@ pub fn list_of<'a>(
         return Ok(whole);
     }
     let stream = Stream::new(alloc, pieces, limit, names, MOST_OUTSIDE);
-    drained(alloc, Expansion { stream })
+    drained(alloc, &mut Expansion { stream })
 }
 
 /// All that is left of a list.
-fn drained(alloc: Global, mut list: Expansion) -> Result<Whole<'static>, AllocError>
-    ensures { IfOk result (λ whole. listing whole ≡ list.entry) }
+fn drained(alloc: Global, list: &mut Expansion) -> Result<Whole<'static>, AllocError>
+    ensures { IfOk result (λ whole. listing whole ≡ list.old) }
 {
     let mut terms = Vec::new(alloc);
     for _ in 0..u64::MAX {

@@ -59,17 +59,16 @@ impl<'a> CompiledModule<'a> {
             coefficient: value,
             term,
         };
-        emit_all(alloc, self.outputs(alloc, item), out)
+        emit_all(alloc, &mut self.outputs(alloc, item), out)
     }
 }
 
 /// Gives all outputs that are left.
-fn emit_all<E: Emit>(alloc: Global, outputs: Outputs, out: &mut E) -> End
-    ensures carried { (pss : List (List AsTrees)) → AreParts (groups_in outputs.entry) pss →
-        Carries (E.emitted out.old) (outputs_left outputs.entry pss) (E.emitted out.new) result }
+fn emit_all<E: Emit>(alloc: Global, outputs: &mut Outputs, out: &mut E) -> End
+    ensures carried { (pss : List (List AsTrees)) → AreParts (groups_in outputs.old) pss →
+        Carries (E.emitted out.old) (outputs_left outputs.old pss) (E.emitted out.new) result }
     ensures stopped { E.has_stopped out.old ≡ false → E.has_stopped out.new ≡ is_stopped result }
 {
-    let mut outputs = outputs;
     // No term has more outputs than the limit, which is a u64.
     for _made in 0..u64::MAX {
         let item = match outputs.next(alloc) {

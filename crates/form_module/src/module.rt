@@ -2,7 +2,7 @@ ghost use Rattle.std.specs.Prelude.{◌≡◌, Ok, Err, IfOk, OnOk, ℕ, map, fi
 ghost use Rattle.form_base.specs.declared.cause.Cause.{Cause};
 ghost use Rattle.form_module.specs.Answers.{AreCarriedOut};
 ghost use Rattle.form_module.specs.Kept.{as_stored, is_kept};
-ghost use Rattle.form_module.specs.Module.{HaveTrees, IsModuleOutcome, with_expression};
+ghost use Rattle.form_module.specs.Module.{HaveTrees, IsModuleOutcome, standing_after, with_expression};
 ghost use Rattle.form_module.specs.Places.{work_at};
 ghost use Rattle.form_module.specs.Works.{works_of};
 ghost use Rattle.form_flow.specs.Groups.{groups_of};
@@ -38,12 +38,11 @@ pub fn run_module(
     let compiled = CompiledModule::new(alloc, settings.max_expand, statements)?;
     let works = works(alloc, statements, !compiled.is_empty(), &standing)?;
     let standing = Standing::from_vec(standing);
-    let results = carry_out(alloc, settings, statements, &compiled, &standing, works)?;
-    let changed = changed(alloc, statements)?;
-    let mut after = BTreeMap::new(alloc);
-    keep(&mut after, &changed, standing.into_vec())?;
-    put(&mut after, results)?;
-    Ok(listed(alloc, after)?)
+    let carried_out = carry_out(alloc, settings, statements, &compiled, &standing, works);
+    drop(compiled);
+    let results = carried_out?;
+    let after = put_all(alloc, statements, standing.into_vec(), results)?;
+    Ok(after)
 }
 
 /// The results of what a module carries out.
@@ -62,7 +61,7 @@ fn carry_out(
 {
     let mut results = Vec::new(alloc);
     for (expression, place) in works {
-        let inputs = inputs(
+        let mut inputs = inputs(
             alloc,
             settings.max_expand,
             statements,
@@ -70,12 +69,30 @@ fn carry_out(
             expression,
             place,
         );
-        match result_of(alloc, settings, compiled, inputs) {
+        let result = result_of(alloc, settings, compiled, &mut inputs);
+        drop(inputs);
+        match result {
             Ok(terms) => results.push(Stored { expression, terms })?,
             Err(error) => return Err(error.at(expression)),
         }
     }
     Ok(results)
+}
+
+/// What stands after a module: the results among the expressions that aren't changed.
+fn put_all(
+    alloc: Global,
+    statements: &[Checked],
+    standing: Vec<Stored>,
+    results: Vec<Stored>,
+) -> Result<Vec<Stored>, AllocError>
+    ensures { IfOk result (λ after. Ok after.items ≡ standing_after statements.now standing.items (Ok results.items)) }
+{
+    let changed = changed(alloc, statements)?;
+    let mut after = BTreeMap::new(alloc);
+    keep(&mut after, &changed, standing)?;
+    put(&mut after, results)?;
+    Ok(listed(alloc, after)?)
 }
 
 /// Puts the expressions that aren't changed among those that stand after a module.

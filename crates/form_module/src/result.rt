@@ -20,10 +20,10 @@ pub fn result_of(
     alloc: Global,
     settings: &Settings,
     statements: &CompiledModule,
-    inputs: Inputs,
+    inputs: &mut Inputs,
 ) -> Result<Terms, ResultError>
     ensures { (pss : List (List Part)) → AreParts statements.now.groups pss →
-        Gives (λ terms. terms) result (result_meant statements.now.limit settings.now.max_terms pss (inputs_left inputs.entry)) }
+        Gives (λ terms. terms) result (result_meant statements.now.limit settings.now.max_terms pss (inputs_left inputs.old)) }
 {
     let terms = collect(alloc, statements, inputs)?;
     if terms.as_slice().len() as u64 > settings.max_terms {
@@ -33,9 +33,13 @@ pub fn result_of(
 }
 
 /// What the statements make of inputs comes to, where all come to their end.
-fn collect(alloc: Global, statements: &CompiledModule, inputs: Inputs) -> Result<Terms, ResultError>
+fn collect(
+    alloc: Global,
+    statements: &CompiledModule,
+    inputs: &mut Inputs,
+) -> Result<Terms, ResultError>
     ensures { (pss : List (List Part)) → AreParts statements.now.groups pss →
-        Gives (λ terms. terms) result (collected_list (through (made_of statements.now.limit pss) (inputs_left inputs.entry))) }
+        Gives (λ terms. terms) result (collected_list (through (made_of statements.now.limit pss) (inputs_left inputs.old))) }
 {
     if statements.is_empty() {
         return collect_inputs(alloc, inputs);
@@ -44,8 +48,8 @@ fn collect(alloc: Global, statements: &CompiledModule, inputs: Inputs) -> Result
 }
 
 /// What inputs come to as they are.
-fn collect_inputs(alloc: Global, mut inputs: Inputs) -> Result<Terms, ResultError>
-    ensures { Gives (λ terms. terms) result (collected_list (inputs_left inputs.entry)) }
+fn collect_inputs(alloc: Global, inputs: &mut Inputs) -> Result<Terms, ResultError>
+    ensures { Gives (λ terms. terms) result (collected_list (inputs_left inputs.old)) }
 {
     let mut collector = Collector::new(alloc);
     for _made in 0..u64::MAX {
@@ -62,14 +66,14 @@ fn collect_inputs(alloc: Global, mut inputs: Inputs) -> Result<Terms, ResultErro
 fn collect_outputs(
     alloc: Global,
     statements: &CompiledModule,
-    mut inputs: Inputs,
+    inputs: &mut Inputs,
 ) -> Result<Terms, ResultError>
     ensures { (pss : List (List Part)) → is_nil statements.now.groups ≡ false → AreParts statements.now.groups pss →
-        Gives (λ terms. terms) result (collected_list (through (made_of statements.now.limit pss) (inputs_left inputs.entry))) }
+        Gives (λ terms. terms) result (collected_list (through (made_of statements.now.limit pss) (inputs_left inputs.old))) }
 {
     let mut collector = Collector::new(alloc);
     for _made in 0..u64::MAX {
-        let Batch { items, end } = next_batch(alloc, &mut inputs)?;
+        let Batch { items, end } = next_batch(alloc, inputs)?;
         add_each(alloc, statements, items, &mut collector)?;
         match end {
             BatchEnd::More => {}
@@ -106,17 +110,17 @@ fn add(
     ensures { (pss : List (List Part)) → is_nil statements.now.groups ≡ false → AreParts statements.now.groups pss →
         IsAdded (made_of statements.now.limit pss item) collector.old collector.new result }
 {
-    add_all(alloc, statements.outputs(alloc, item), collector)
+    add_all(alloc, &mut statements.outputs(alloc, item), collector)
 }
 
 /// Adds all outputs that are left.
 fn add_all(
     alloc: Global,
-    mut outputs: Outputs,
+    outputs: &mut Outputs,
     collector: &mut Collector,
 ) -> Result<(), ResultError>
-    ensures { (pss : List (List Part)) → AreParts (groups_in outputs.entry) pss →
-        IsAdded (outputs_left outputs.entry pss) collector.old collector.new result }
+    ensures { (pss : List (List Part)) → AreParts (groups_in outputs.old) pss →
+        IsAdded (outputs_left outputs.old pss) collector.old collector.new result }
 {
     for _made in 0..u64::MAX {
         match outputs.next(alloc)? {

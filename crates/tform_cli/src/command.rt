@@ -6,14 +6,16 @@ ghost use Rattle.form_engine.specs.Call.{bytes_of_words, IsStop, IsCarriedOut, F
 ghost use Rattle.form_engine.specs.Outcome.{Outcome, IsOutcome};
 ghost use Rattle.form_engine.specs.Words.{file_of};
 
-use crate::stores::fresh_stores;
 use form_base::Status;
 use form_engine::tform;
-use form_mem::OpenGate;
+use form_mem::{OpenGate, fresh_stores};
 use form_outside::{Library, Sink};
 use std::alloc::{AllocError, Global};
 use std::sync::Wait;
 use std::thread::Threads;
+
+/// How many stores a call is lent: the master's and those of sixteen workers.
+const STORES: usize = 17;
 
 /// Runs the command of these words, with stores in memory and a gate that keeps no seat waiting.
 pub fn run_command<R: Threads + Wait, L: Library, O: Sink>(
@@ -59,6 +61,6 @@ pub fn run_command<R: Threads + Wait, L: Library, O: Sink>(
     // Where memory lacks for the stores, nothing was done.
     ensures untouched { OnErr result ((library.new ≡ library.old) × (out.new ≡ out.old)) }
 {
-    let mut stores = fresh_stores(alloc)?;
+    let mut stores = fresh_stores(alloc, STORES)?;
     Ok(tform(rt, alloc, words, library, out, &mut stores, &OpenGate))
 }

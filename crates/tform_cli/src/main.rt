@@ -5,14 +5,10 @@ ghost use Rattle.std.specs.Prelude.{◌≡◌, ◌≢◌, [], IsErr, IsOkAnd};
 ghost use Rattle.std.specs.IoError.{error_kind};
 
 mod command;
-mod file_library;
-mod out_sink;
-mod stores;
 
 use crate::command::run_command;
-use crate::file_library::FileLibrary;
-use crate::out_sink::OutSink;
 use form_base::Status;
+use form_files::{FileLibrary, OutSink};
 use std::alloc::{AllocError, Global};
 use std::io::ErrorKind;
 use std::process::ExitCode;
@@ -59,8 +55,3 @@ fn no_words(alloc: Global, error: &io::Error) -> Result<Vec<String>, AllocError>
     }
     Ok(Vec::new(alloc))
 }
-
-#[cfg(test)]
-mod programs;
-#[cfg(test)]
-mod tests;

@@ -9,7 +9,7 @@ pub returns-in-Ok-Stops-clause-carried : goal.returns-in-Ok-Stops-clause-carried
 returns-in-Ok-Stops-clause-carried g c = λ pss are.
     let old = g.E.Emit.emitted c.args.out.now in
     let new = g.E.Emit.emitted c.emit.new.self in
-    let all = outputs_left c.args.outputs pss in
+    let all = outputs_left c.args.outputs.now pss in
     let left = outputs_left c.loop-made.outputs pss in
     let rest = outputs_left c.next.new.self pss in
     let now_are = subst (λ (gs : List (List Rewriting)). AreParts gs pss) (sym c.loop-made.invariant.groups) are in
@@ -25,7 +25,7 @@ loop-made-preserved g c = record {
       let left = outputs_left c.loop-made.outputs pss in
       let rest = outputs_left c.next.new.self pss in
       let now_are = subst (λ (gs : List (List Rewriting)). AreParts gs pss) (sym c.loop-made.invariant.groups) are in
-      one_more (g.E.Emit.emitted c.args.out.now) (g.E.Emit.emitted c.loop-made.out) (g.E.Emit.emitted c.emit.new.self) (outputs_left c.args.outputs pss) left rest c.in-Ok-Some.item
+      one_more (g.E.Emit.emitted c.args.out.now) (g.E.Emit.emitted c.loop-made.out) (g.E.Emit.emitted c.emit.new.self) (outputs_left c.args.outputs.now pss) left rest c.in-Ok-Some.item
       (c.loop-made.invariant.carried pss are) (gives_some c.in-Ok-Some.field-0 c.in-Ok-Some.item left rest c.in-Ok-Some.field-0-is (c.in-Ok-Some.ensures.left pss now_are))
       c.in-Ok-Continues.ensures.taken;
   wanted = search rules;

@@ -9,7 +9,7 @@ use Rattle.form_module.proofs.result.collect.Goals as goal
 pub returns-then-is_empty : goal.returns-then-is_empty
 returns-then-is_empty c pss are =
     subst (λ (l : Listing). Gives (λ terms. terms) c.collect_inputs.result (collected_list l))
-    (as_they_are c.args.statements.now.limit c.args.statements.now.groups pss (inputs_left c.args.inputs) (sym c.is_empty.ensures ∙ c.if-is_empty.true) are)
+    (as_they_are c.args.statements.now.limit c.args.statements.now.groups pss (inputs_left c.args.inputs.now) (sym c.is_empty.ensures ∙ c.if-is_empty.true) are)
     c.collect_inputs.ensures
 
 pub returns : goal.returns

@@ -1,8 +1,8 @@
 use Rattle.std.proofs.Common.{◌≡◌, ◌≤◌, ◌++◌, drop, length, ap, ◌∙◌, arith}
 use Rattle.std.proofs.lemmas.List.{drop-append-le}
 use Rattle.std.proofs.KnownBytes.{append_known-grown, Appends-kept, Keeps-refl}
-use Rattle.tform_cli.proofs.Known.{Takes-Appends}
-use Rattle.tform_cli.proofs.out_sink.OutSinkSink.put.Goals as goal
+use Rattle.form_files.proofs.Known.{Takes-Appends}
+use Rattle.form_files.proofs.out_sink.OutSinkSink.put.Goals as goal
 
 pub returns-clause-taken : goal.returns-clause-taken
 returns-clause-taken g c =

@@ -1,8 +1,8 @@
 use Rattle.std.proofs.Common.{◌≤◌, length, subst, arith, length-take, length-drop, ℕ}
 use Rattle.std.specs.Io.KnownBytes.{Appends}
 use Rattle.std.proofs.KnownBytes.{Appends-trans}
-use Rattle.tform_cli.proofs.Known.{take_both}
-use Rattle.tform_cli.proofs.out_sink.write_front.Goals as goal
+use Rattle.form_files.proofs.Known.{take_both}
+use Rattle.form_files.proofs.out_sink.write_front.Goals as goal
 
 pub loop-written-preserved : goal.loop-written-preserved
 loop-written-preserved g c =

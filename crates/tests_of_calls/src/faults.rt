@@ -4,8 +4,8 @@ ghost use Rattle.std.specs.Prelude.{◌≡◌, IfOk};
 ghost use Rattle.form_mem.specs.Library.{library_faults};
 ghost use Rattle.form_mem.specs.Sink.{sink_faults};
 
-use crate::command::run_command;
-use form_mem::{MemLibrary, MemSink};
+use form_engine::tform;
+use form_mem::{MemLibrary, MemSink, OpenGate, fresh_stores};
 use std::alloc::{AllocError, Global};
 use std::sync::Wait;
 use std::test::Fail;
@@ -76,9 +76,20 @@ fn answer_to<R: Threads + Wait>(
     let words = words_of(alloc, words)?;
     let mut library = library_of(alloc, text, failing)?;
     let mut out = empty_sink(alloc, failing)?;
-    let status = run_command(rt, alloc, &words, &mut library, &mut out)?;
+    let mut stores = fresh_stores(alloc, 17)?;
+    let status = tform(
+        rt,
+        alloc,
+        &words,
+        &mut library,
+        &mut out,
+        &mut stores,
+        &OpenGate,
+    );
+    let code = status.code();
+    drop(status);
     Ok(Answered {
-        code: status.code(),
+        code,
         bytes: out.bytes().to_vec(alloc)?,
     })
 }

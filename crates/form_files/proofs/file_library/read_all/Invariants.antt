@@ -1,6 +1,6 @@
 use Rattle.std.proofs.Common.{◌≤◌, vec_len}
 use Rattle.std.specs.Io.KnownBytes.{Consumes}
-use Rattle.tform_cli.proofs.file_library.read_all.Given as goal
+use Rattle.form_files.proofs.file_library.read_all.Given as goal
 
 -- the text so far is what the reader gave
 abbrev pub invariant-loop : goal.invariant-loop

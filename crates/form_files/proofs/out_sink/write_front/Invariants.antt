@@ -1,6 +1,6 @@
 use Rattle.std.proofs.Common.{◌≤◌, ◌-◌, length, take}
 use Rattle.std.specs.Io.KnownBytes.{Appends}
-use Rattle.tform_cli.proofs.out_sink.write_front.Given as goal
+use Rattle.form_files.proofs.out_sink.write_front.Given as goal
 
 -- what is written so far has gone out
 abbrev pub invariant-loop-written : goal.invariant-loop-written

@@ -4,7 +4,7 @@ use Rattle.std.proofs.lemmas.List.Elements.{All-push}
 use Rattle.form_outside.specs.Runs.{Contents, HasNoLiveRun}
 use Rattle.form_mem.specs.declared.store.MemStore.{MemStore}
 use Rattle.form_mem.specs.Store.{runs_of, lengths_in, lengths_of}
-use Rattle.tform_cli.proofs.stores.fresh_stores.Goals as goal
+use Rattle.form_mem.proofs.stores.fresh_stores.Goals as goal
 
 -- a store without runs has no live one
 no_live_run : (store : MemStore) → runs_of store ≡ [] → HasNoLiveRun (lengths_of store)

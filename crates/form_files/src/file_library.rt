@@ -19,25 +19,29 @@ pub struct FileLibrary<R: Files> {
 }
 
 impl<R: Files> FileLibrary<R> {
+    ghost use Rattle.form_files.specs.FileLibrary.{library_faults};
+
     pub fn new(files: R) -> Self
-        ensures { result.faults ≡ 0 }
+        ensures { library_faults result ≡ 0 }
     {
         FileLibrary { files, faults: 0 }
     }
 }
 
 impl<R: Files> Library for FileLibrary<R> {
+    ghost use Rattle.form_files.specs.FileLibrary.{library_faults};
+
     // No clause can say what a file holds.
     ghost texts = { λ _. None };
 
-    ghost faults = { λ library. library.faults };
+    ghost faults = { library_faults };
 
     /// None where there is no file at the path. A folder, and a file that can't be opened or read, is a fault.
     fn fetch(&mut self, alloc: Global, name: &str, max: u64) -> Result<Option<Vec<u8>>, LibraryErr>
         ensures within { IfOk result (λ found. IfSome found (λ text. length text.items ≤ max)) }
-        ensures failed { result ≡ Err LibraryErr.Failed → HasRisen self.old.faults self.new.faults }
-        ensures never_falls { self.old.faults ≤ self.new.faults }
-        ensures not_risen { result ≢ Err LibraryErr.Failed → self.new.faults ≡ self.old.faults }
+        ensures failed { result ≡ Err LibraryErr.Failed → HasRisen (library_faults self.old) (library_faults self.new) }
+        ensures never_falls { library_faults self.old ≤ library_faults self.new }
+        ensures not_risen { result ≢ Err LibraryErr.Failed → library_faults self.new ≡ library_faults self.old }
     {
         let answer = read_file(&self.files, alloc, name, max);
         if matches!(&answer, Err(LibraryErr::Failed)) {

@@ -1,7 +1,7 @@
 use Rattle.std.proofs.Common.{◌≡◌, All, length}
 use Rattle.form_outside.specs.Runs.{HasNoLiveRun}
 use Rattle.form_mem.specs.Store.{lengths_of}
-use Rattle.tform_cli.proofs.stores.fresh_stores.Given as goal
+use Rattle.form_mem.proofs.stores.fresh_stores.Given as goal
 
 -- so many stores are made, each without runs
 abbrev pub invariant-loop-made : goal.invariant-loop-made

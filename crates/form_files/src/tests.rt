@@ -1,5 +1,5 @@
-use super::*;
 use crate::file_library::read_all;
+use crate::{FileLibrary, OutSink};
 use form_outside::{Library, LibraryErr, Sink, SinkErr};
 use std::alloc::Global;
 use std::io::{Error, ErrorKind, Read, Write};
@@ -74,7 +74,7 @@ fn library_reads_files(rt: HostRuntime) -> Result<(), Fail> {
         .to_str()
         .ok_or("the folder's name is no text")?;
     let number = process::id(rt.process());
-    let path = format!(in alloc; "{folder}/tform_cli_{number}.frm")?;
+    let path = format!(in alloc; "{folder}/form_files_{number}.frm")?;
     fs::write(&rt, path.as_str(), "Symbols x;\n")?;
     let mut library = FileLibrary::new(rt);
     let whole = library.fetch(alloc, path.as_str(), 11);

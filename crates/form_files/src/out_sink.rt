@@ -23,13 +23,12 @@ pub struct OutSink<W: Write> {
 }
 
 impl<W: Write> OutSink<W> {
-    ghost use Rattle.tform_cli.specs.OutSink.{taken_by};
+    ghost use Rattle.form_files.specs.OutSink.{taken_by, waiting_in, is_finished, sink_faults};
 
     pub fn new(alloc: Global, out: W) -> Self
-        ensures waiting { result.waiting.items ≡ [] }
-        ensures out { result.out ≡ out }
-        ensures open { result.finished ≡ false }
-        ensures faults { result.faults ≡ 0 }
+        ensures taken { taken_by result ≡ W.contents out }
+        ensures open { is_finished result ≡ false }
+        ensures faults { sink_faults result ≡ 0 }
     {
         OutSink {
             out,
@@ -43,11 +42,11 @@ impl<W: Write> OutSink<W> {
     /// Writes out what waits. What a failed write leaves still waits.
     fn write_out(&mut self) -> Result<(), SinkErr>
         ensures taken { Keeps (taken_by self.old) (taken_by self.new) }
-        ensures written { OnOk result (self.new.waiting.items ≡ []) }
-        ensures finished { self.new.finished ≡ self.old.finished }
-        ensures failed { OnErr result (HasRisen self.old.faults self.new.faults) }
-        ensures never_falls { self.old.faults ≤ self.new.faults }
-        ensures not_risen { OnOk result (self.new.faults ≡ self.old.faults) }
+        ensures written { OnOk result (waiting_in self.new ≡ []) }
+        ensures finished { is_finished self.new ≡ is_finished self.old }
+        ensures failed { OnErr result (HasRisen (sink_faults self.old) (sink_faults self.new)) }
+        ensures never_falls { sink_faults self.old ≤ sink_faults self.new }
+        ensures not_risen { OnOk result (sink_faults self.new ≡ sink_faults self.old) }
         ensures memory { result ≢ Err SinkErr.Memory }
     {
         self.start += write_front(&mut self.out, &self.waiting[self.start..]);
@@ -62,22 +61,22 @@ impl<W: Write> OutSink<W> {
 }
 
 impl<W: Write> Sink for OutSink<W> {
-    ghost use Rattle.tform_cli.specs.OutSink.{taken_by};
+    ghost use Rattle.form_files.specs.OutSink.{taken_by, waiting_in, is_finished, sink_faults};
 
     // What the writer holds and then what waits, where the writer tells it; the standard output doesn't.
     ghost taken = { taken_by };
 
-    ghost is_finished = { λ sink. sink.finished };
+    ghost is_finished = { is_finished };
 
-    ghost faults = { λ sink. sink.faults };
+    ghost faults = { sink_faults };
 
     fn put(&mut self, alloc: Global, piece: &[u8]) -> Result<(), SinkErr>
         ensures taken { Takes (taken_by self.old) piece.now (taken_by self.new) result }
-        ensures few_wait { OnOk result (vec_len self.new.waiting < ROOM) }
-        ensures open { self.new.finished ≡ false }
-        ensures failed { result ≡ Err SinkErr.Failed → HasRisen self.old.faults self.new.faults }
-        ensures not_risen { result ≢ Err SinkErr.Failed → self.new.faults ≡ self.old.faults }
-        ensures never_falls { self.old.faults ≤ self.new.faults }
+        ensures few_wait { OnOk result (length (waiting_in self.new) < 65_536) }
+        ensures open { is_finished self.new ≡ false }
+        ensures failed { result ≡ Err SinkErr.Failed → HasRisen (sink_faults self.old) (sink_faults self.new) }
+        ensures not_risen { result ≢ Err SinkErr.Failed → sink_faults self.new ≡ sink_faults self.old }
+        ensures never_falls { sink_faults self.old ≤ sink_faults self.new }
     {
         let _ = alloc;
         self.finished = false;
@@ -90,11 +89,11 @@ impl<W: Write> Sink for OutSink<W> {
 
     fn finish(&mut self, alloc: Global) -> Result<(), SinkErr>
         ensures taken { Takes (taken_by self.old) [] (taken_by self.new) result }
-        ensures none_waits { OnOk result (self.new.waiting.items ≡ []) }
-        ensures finished { self.new.finished ≡ is_ok result }
-        ensures failed { OnErr result (HasRisen self.old.faults self.new.faults) }
-        ensures not_risen { OnOk result (self.new.faults ≡ self.old.faults) }
-        ensures never_falls { self.old.faults ≤ self.new.faults }
+        ensures none_waits { OnOk result (waiting_in self.new ≡ []) }
+        ensures finished { is_finished self.new ≡ is_ok result }
+        ensures failed { OnErr result (HasRisen (sink_faults self.old) (sink_faults self.new)) }
+        ensures not_risen { OnOk result (sink_faults self.new ≡ sink_faults self.old) }
+        ensures never_falls { sink_faults self.old ≤ sink_faults self.new }
         ensures memory { result ≢ Err SinkErr.Memory }
     {
         let _ = alloc;

@@ -1,0 +1,2 @@
+pub mod FileLibrary
+pub mod OutSink
