@@ -19,3 +19,7 @@ is_finished sink = sink.finished
 -- how often it has failed
 abbrev pub sink_faults : {W : Type 0} {writer : Ghosts W} → OutSink W writer → ℕ
 sink_faults sink = sink.faults
+
+-- what it writes to
+abbrev pub writer_in : {W : Type 0} {writer : Ghosts W} → OutSink W writer → W
+writer_in sink = sink.out

@@ -23,10 +23,12 @@ pub struct OutSink<W: Write> {
 }
 
 impl<W: Write> OutSink<W> {
-    ghost use Rattle.form_files.specs.OutSink.{taken_by, waiting_in, is_finished, sink_faults};
+    ghost use Rattle.form_files.specs.OutSink.{taken_by, waiting_in, writer_in, is_finished, sink_faults};
 
     pub fn new(alloc: Global, out: W) -> Self
         ensures taken { taken_by result ≡ W.contents out }
+        ensures waiting { waiting_in result ≡ [] }
+        ensures out { writer_in result ≡ out }
         ensures open { is_finished result ≡ false }
         ensures faults { sink_faults result ≡ 0 }
     {
