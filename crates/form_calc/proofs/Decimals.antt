@@ -1,13 +1,43 @@
--- The number of an operand is the decimal number of its digits.
-use Rattle.std.proofs.Common.{◌≡◌, ℕ, zero, suc, ◌+◌, ◌-◌, ◌*◌, ◌≤◌, ℤ, pos, neg_ℤ, ◌*ℤ◌, Bool, true, false, if◌then◌else◌, List, [], ◌∷◌, Option, Some, None, refl, sym, ap, ◌∙◌, arith}
-use Rattle.std.specs.Prelude.{◌==◌}
+-- Digits, and the decimal number that they write.
+use Rattle.std.proofs.Common.{◌≡◌, ℕ, zero, suc, ◌+◌, ◌-◌, ◌*◌, ◌≤◌, ◌<◌, ℤ, pos, neg_ℤ, ◌*ℤ◌, nat_le, Bool, true, false, if◌then◌else◌, List, [], ◌∷◌, Option, Some, None, refl, sym, ap, ◌∙◌, arith}
+use Rattle.std.specs.Prelude.{◌==◌, fold}
 use Rattle.std.specs.List.{list_all}
 use Rattle.std.proofs.Math.IntN.{neg_ℤ-+ℤ}
-use Rattle.std.proofs.lemmas.Bool.{and_parts, eqb-true}
-use Rattle.form_calc.specs.Number.{largest, is_in_range, in_range, plus, minus, with_digit_below, zero as nothing, read_up, read_down, number_of}
+use Rattle.std.proofs.lemmas.Bool.{and_parts, leb-false, lt-leb}
+use Rattle.form_calc.specs.Number as numbers
+use Rattle.form_calc.specs.Number.{largest, is_in_range, in_range, minus, with_digit_below, zero as nothing, read_up, read_down, number_of}
 use Rattle.form_calc.specs.Calculation.{is_digit}
 use Rattle.form_calc.specs.Expression.{decimal}
-use Rattle.form_calc.proofs.Machine.{more_decimal, above, further}
+use Rattle.form_calc.proofs.Spaces.{unlike}
+
+abbrev shown_if : Bool → ℕ → Option ℤ
+shown_if is n = if is then Some (pos n) else None
+
+above : (m top n : ℕ) → m ≤ n → nat_le m top ≡ false → nat_le n top ≡ false
+above m top n h e =
+    let f : top < m = leb-false m top e in
+    lt-leb n top (omega arith)
+
+abbrev more_decimal : ℕ → List ℕ → ℕ
+more_decimal m ds = fold (λ value digit. value * 10 + (digit - 48)) m ds
+
+-- one more digit behind a number that may be out of range
+further : (m d : ℕ) → numbers.with_digit (in_range (pos m)) d ≡ in_range (pos (m * 10 + (d - 48)))
+further m d = by (nat_le m largest) refl
+  where
+    larger : m ≤ m * 10 + (d - 48)
+    larger = omega arith
+
+    added : m * 10 ≤ m * 10 + (d - 48)
+    added = omega arith
+
+    more : (is : Bool) → nat_le (m * 10) largest ≡ is → numbers.plus (shown_if is (m * 10)) (Some (pos (d - 48))) ≡ in_range (pos (m * 10 + (d - 48)))
+    more true e = refl
+    more false e = sym (ap (λ (is : Bool). shown_if is (m * 10 + (d - 48))) (above (m * 10) largest (m * 10 + (d - 48)) added e))
+
+    by : (is : Bool) → nat_le m largest ≡ is → numbers.with_digit (shown_if is m) d ≡ in_range (pos (m * 10 + (d - 48)))
+    by true e = more (nat_le (m * 10) largest) refl
+    by false e = sym (ap (λ (is : Bool). shown_if is (m * 10 + (d - 48))) (above m largest (m * 10 + (d - 48)) larger e))
 
 up : (m : ℕ) (ds : List ℕ) → read_up (in_range (pos m)) ds ≡ in_range (pos (more_decimal m ds))
 unfolding read_up
@@ -58,13 +88,6 @@ down m (d ∷ ds) = ap (λ n. read_down n ds) (further_below m d) ∙ down (m * 
 
 -- ---- the sign
 
-no_sign : (c sign : ℕ) → is_digit c ≡ true → is_digit sign ≡ false → (c == sign) ≡ false
-no_sign c sign h k = by (c == sign) refl
-  where
-    by : (is : Bool) → (c == sign) ≡ is → (c == sign) ≡ false
-    by true e = let f : true ≡ false = sym h ∙ ap is_digit (eqb-true c sign e) ∙ k in absurd cc
-    by false e = e
-
 abbrev number_if : Bool → Bool → List ℕ → List ℕ → Option ℤ
 number_if minus plus digits text = if minus then read_down nothing digits else (if plus then read_up nothing digits else read_up nothing text)
 
@@ -72,8 +95,8 @@ pub number_alone : (ds : List ℕ) → list_all is_digit ds ≡ true → number_
 number_alone [] h = refl
 number_alone (d ∷ ds) h =
     let digit = (and_parts (is_digit d) (list_all is_digit ds) h).0 in
-    ap (λ (is : Bool). number_if is (d == 43) ds (d ∷ ds)) (no_sign d 45 digit refl)
-    ∙ ap (λ (is : Bool). number_if false is ds (d ∷ ds)) (no_sign d 43 digit refl)
+    ap (λ (is : Bool). number_if is (d == 43) ds (d ∷ ds)) (unlike is_digit d 45 digit refl)
+    ∙ ap (λ (is : Bool). number_if false is ds (d ∷ ds)) (unlike is_digit d 43 digit refl)
     ∙ up 0 (d ∷ ds)
 
 pub number_above : (ds : List ℕ) → list_all is_digit ds ≡ true → number_of (43 ∷ ds) ≡ in_range (pos (decimal ds))

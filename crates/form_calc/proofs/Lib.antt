@@ -1,9 +1,10 @@
+mod Calculations
+mod Chains
+mod Conditions
 mod Decimals
-mod Holes
-mod Joints
-mod Lexemes
-mod Machine
+mod Fronts
 mod Oldest
-mod Ranges
-mod Tokens
-mod Trees
+mod Readers
+mod Signs
+mod Spaces
+mod Written

@@ -1,20 +1,19 @@
--- Conditions: comparisons joined by `&&`, which binds closer, `||` and parentheses. A condition is read character by
--- character; what stands outside an open parenthesis is kept until that ends.
-use Rattle.std.specs.Prelude.{ℕ, ℤ, int_lt, int_le, Bool, true, false, not, ◌==◌, ◌||◌, ◌&&◌, nat_le, nat_eq, if◌then◌else◌, List, [], ◌∷◌, ◌++◌, length, Option, Some, None, option_and_then, option_map}
+-- Conditions: comparisons and parentheses, joined by `&&`, which binds closer, and `||`. What is read has a truth, none where
+-- a number is out of range.
+use Rattle.std.specs.Prelude.{ℕ, ◌+◌, ℤ, int_lt, int_le, Bool, true, false, not, ◌==◌, ◌||◌, ◌&&◌, nat_eq, if◌then◌else◌, List, [], ◌∷◌, take, drop, Option, Some, None, option_and_then, option_map}
 use Rattle.std.specs.Ordering.{int_eq}
 use Rattle.std.specs.Cmp.Lexicographic.{pointwise}
 use Rattle.std.specs.Char.{is_ascii_digit, is_ascii_alphanumeric}
+use Rattle.std.specs.List.{list_all}
 use Rattle.form_calc.specs.Number as number
-use Rattle.form_calc.specs.Calculation.{is_blank, most_open}
-use Rattle.form_calc.specs.declared.operand.Operand.{Operand}
+use Rattle.form_calc.specs.Reading.{after_blanks, before, looked_up, front, with_rest, chain, within, read_whole}
 use Rattle.form_calc.specs.declared.operand.Comparison.{Comparison}
 use Rattle.form_calc.specs.declared.operand.Comparison.TheVariants.{Equal, Unequal, Less, Greater, LessOrEqual, GreaterOrEqual}
-use Rattle.form_calc.specs.declared.condition.Group.{Group}
-use Rattle.form_calc.specs.declared.condition.Condition.{Condition}
-use Rattle.form_calc.specs.declared.condition.Stage as stages
-use Rattle.form_calc.specs.declared.condition.Stage.TheVariants as stage
-use Rattle.form_calc.specs.declared.condition.Lexeme as lexemes
-use Rattle.form_calc.specs.declared.condition.Lexeme.TheVariants as lexeme
+
+-- what is compared: a number as it is written, or a text
+pub record Operand : Type 0 where
+  pub text : List ℕ
+  pub is_number : Bool
 
 abbrev pub same_text : List ℕ → List ℕ → Bool
 same_text a b = pointwise nat_eq a b
@@ -45,10 +44,6 @@ compared c a b =
     if a.is_number && b.is_number then Some (compared_numbers c (number.number_of a.text) (number.number_of b.text))
     else option_map Some (compared_texts c a.text b.text)
 
--- no alternative yet, and nothing that fails
-abbrev pub start : Group
-start = record { any = Some false; all = Some true }
-
 -- there is no short circuit: a number out of range counts wherever it stands
 abbrev pub either : Option Bool → Option Bool → Option Bool
 either (Some a) (Some b) = Some (a || b)
@@ -60,198 +55,121 @@ both (Some a) (Some b) = Some (a && b)
 both (Some a) None = None
 both None b = None
 
-abbrev pub value : Group → Option Bool
-value g = either g.any g.all
-
-abbrev pub with_truth : Group → Option Bool → Group
-with_truth g truth = record { any = g.any; all = both g.all truth }
-
-abbrev pub with_alternative : Group → Group
-with_alternative g = record { any = value g; all = Some true }
-
 abbrev pub is_word_character : ℕ → Bool
 is_word_character c = is_ascii_alphanumeric c || (c == 95)
 
-abbrev pub comparison_of : ℕ → ℕ → Option Comparison
-comparison_of first second =
-    if not (second == 61) then None
-    else if first == 61 then Some Equal
-    else if first == 33 then Some Unequal
-    else if first == 60 then Some LessOrEqual
-    else if first == 62 then Some GreaterOrEqual
-    else None
+abbrev pub is_inside_quotes : ℕ → Bool
+is_inside_quotes c = not (c == 34)
 
-abbrev pub begun : Condition
-begun = record { outer = []; group = start; stage = stage.First; first = record { text = []; is_number = false }; comparison = Equal; lexeme = lexeme.Between; text = []; mark = 0 }
+-- ---- operands
 
--- nothing is being read now
-abbrev pub between : Condition → Condition
-between c = record c { lexeme = lexeme.Between }
+-- so many characters as an operand
+abbrev pub cut : ℕ → Bool → List ℕ → Option (Operand × List ℕ)
+cut size is_number text = Some (record { text = take size text; is_number = is_number }, drop size text)
 
-abbrev pub with_group : Condition → Group → stages.Stage → Condition
-with_group c group stage = record c { group = group; stage = stage }
+abbrev pub before_quote : List ℕ → List ℕ → Option (Operand × List ℕ)
+before_quote text [] = None
+before_quote text (c ∷ rest) = Some (record { text = text; is_number = false }, rest)
 
-abbrev pub joined_by : Condition → Option (Option Bool) → Option Condition
-joined_by c None = None
-joined_by c (Some truth) = Some (with_group c (with_truth c.group truth) stage.Joined)
+-- a text up to its closing quote
+unfoldable pub quoted : List ℕ → Option (Operand × List ℕ)
+quoted text = before_quote (take (front is_inside_quotes text) text) (drop (front is_inside_quotes text) text)
 
-abbrev pub with_second : Condition → Operand → Option Condition
-with_second c second = joined_by c (compared c.comparison c.first second)
+-- a number whose sign is the first character of a text, and its digits the rest
+unfoldable pub behind_sign : List ℕ → List ℕ → Option (Operand × List ℕ)
+behind_sign text rest = if front is_ascii_digit rest == 0 then None else cut (front is_ascii_digit rest + 1) true text
 
-abbrev pub operand_in : Condition → stages.Stage → Operand → Option Condition
-operand_in c stage.First operand = Some (record c { first = operand; stage = stage.Compared })
-operand_in c stage.Second operand = with_second c operand
-operand_in c _ operand = None
+-- a word, or a number if it has digits alone
+unfoldable pub plain : List ℕ → Option (Operand × List ℕ)
+plain text =
+    if front is_word_character text == 0 then None
+    else cut (front is_word_character text) (list_all is_ascii_digit (take (front is_word_character text) text)) text
 
--- what was read is an operand
-abbrev pub with_operand : Condition → Bool → Option Condition
-with_operand c is_number = operand_in (record c { lexeme = lexeme.Between; text = [] }) c.stage (record { text = c.text; is_number = is_number })
+abbrev pub operand_in : List ℕ → Option (Operand × List ℕ)
+operand_in [] = None
+operand_in (c ∷ cs) =
+    if c == 34 then quoted cs
+    else if (c == 43) || (c == 45) then behind_sign (c ∷ cs) cs
+    else plain (c ∷ cs)
 
-abbrev pub comparison_in : Condition → stages.Stage → Comparison → Option Condition
-comparison_in c stage.Compared comparison = Some (record c { comparison = comparison; stage = stage.Second })
-comparison_in c _ comparison = None
+unfoldable pub operand : List ℕ → Option (Operand × List ℕ)
+operand text = operand_in (after_blanks text)
 
-abbrev pub with_comparison : Condition → Comparison → Option Condition
-with_comparison c comparison = comparison_in (between c) c.stage comparison
+-- ---- marks
 
-abbrev pub join_in : Condition → stages.Stage → Bool → Option Condition
-join_in c stage.Joined is_alternative = Some (with_group c (if is_alternative then with_alternative c.group else c.group) stage.First)
-join_in c _ is_alternative = None
+-- `==`, `!=`, `<=` and `>=` by their first character
+abbrev pub longer : List (ℕ × Comparison)
+longer = (61, Equal) ∷ (33, Unequal) ∷ (60, LessOrEqual) ∷ (62, GreaterOrEqual) ∷ []
 
--- `&&`, or `||` where an alternative begins
-abbrev pub with_join : Condition → Bool → Option Condition
-with_join c is_alternative = join_in (between c) c.stage is_alternative
+-- `<` and `>`
+abbrev pub shorter : List (ℕ × Comparison)
+shorter = (60, Less) ∷ (62, Greater) ∷ []
 
-abbrev pub opened_in : Condition → stages.Stage → Option Condition
-opened_in c stage.First = if nat_le most_open (length c.outer) then None else Some (record c { outer = c.group ∷ c.outer; group = start })
-opened_in c _ = None
+abbrev pub begun_with : ℕ → List ℕ → Option (Comparison × List ℕ)
+begun_with c [] = before (looked_up shorter c) []
+begun_with c (d ∷ cs) = if d == 61 then before (looked_up longer c) cs else before (looked_up shorter c) (d ∷ cs)
 
--- a parenthesis begins, unless too many are open
-abbrev pub opened : Condition → Option Condition
-opened c = opened_in c c.stage
+abbrev pub comparison_in : List ℕ → Option (Comparison × List ℕ)
+comparison_in [] = None
+comparison_in (c ∷ cs) = begun_with c cs
 
-abbrev pub closed_to : Condition → List Group → Option Condition
-closed_to c [] = None
-closed_to c (g ∷ outer) = Some (record c { outer = outer; group = with_truth g (value c.group) })
+unfoldable pub comparison_at : List ℕ → Option (Comparison × List ℕ)
+comparison_at text = comparison_in (after_blanks text)
 
-abbrev pub closed_in : Condition → stages.Stage → Option Condition
-closed_in c stage.Joined = closed_to c c.outer
-closed_in c _ = None
+abbrev pub second_of : ℕ → ℕ → List ℕ → Option (List ℕ)
+second_of mark c [] = None
+second_of mark c (d ∷ cs) = if (c == mark) && (d == mark) then Some cs else None
 
--- a parenthesis ends, and is a comparison of what stands outside
-abbrev pub closed : Condition → Option Condition
-closed c = closed_in c c.stage
+abbrev pub double_in : ℕ → List ℕ → Option (List ℕ)
+double_in mark [] = None
+double_in mark (c ∷ cs) = second_of mark c cs
 
-abbrev pub begun_with : Condition → lexemes.Lexeme → ℕ → Option Condition
-begun_with c kind byte = Some (record c { lexeme = kind; text = byte ∷ [] })
+-- what follows a mark that is written twice
+abbrev pub behind_double : ℕ → List ℕ → Option (List ℕ)
+behind_double mark text = double_in mark (after_blanks text)
 
-abbrev pub begins_word : Condition → ℕ → Option Condition
-begins_word c byte =
-    if is_ascii_digit byte then begun_with c lexeme.Digits byte
-    else if is_word_character byte then begun_with c lexeme.Word byte
-    else None
+abbrev pub joint_in : ℕ → List ℕ → Option (Unit {0} × List ℕ)
+joint_in mark text = with_rest tt (double_in mark text)
 
-abbrev pub is_mark : ℕ → Bool
-is_mark c = (c == 38) || (c == 124) || (c == 61) || (c == 33) || (c == 60) || (c == 62)
+-- ---- tests
 
--- a character where nothing is being read
-abbrev pub begins_in : Condition → ℕ → Option Condition
-begins_in c byte =
-    if is_blank byte then Some c
-    else if byte == 40 then opened c
-    else if byte == 41 then closed c
-    else if (byte == 43) || (byte == 45) then begun_with c lexeme.Sign byte
-    else if byte == 34 then Some (record c { lexeme = lexeme.Quoted; text = [] })
-    else if is_mark byte then Some (record c { lexeme = lexeme.Mark; mark = byte })
-    else begins_word c byte
+abbrev pub with_second : Operand → Comparison → Operand × List ℕ → Option (Option Bool × List ℕ)
+with_second a c b = before (compared c a b.0) b.1
 
-abbrev pub begins : Condition → ℕ → Option Condition
-begins c byte = begins_in (between c) byte
+abbrev pub with_comparison : Operand → Comparison × List ℕ → Option (Option Bool × List ℕ)
+with_comparison a c = option_and_then (with_second a c.0) (operand c.1)
 
-abbrev pub extended : Condition → lexemes.Lexeme → ℕ → Option Condition
-extended c kind byte = Some (record c { lexeme = kind; text = c.text ++ byte ∷ [] })
+abbrev pub with_first : Operand × List ℕ → Option (Option Bool × List ℕ)
+with_first a = option_and_then (with_comparison a.0) (comparison_at a.1)
 
--- an operand ends at the first character behind it
-abbrev pub ends_operand : Condition → Bool → ℕ → Option Condition
-ends_operand c is_number byte = option_and_then (λ next. begins next byte) (with_operand c is_number)
+unfoldable pub comparison : List ℕ → Option (Option Bool × List ℕ)
+comparison text = option_and_then with_first (operand text)
 
-abbrev pub after_sign : Condition → ℕ → Option Condition
-after_sign c byte = if is_ascii_digit byte then extended c lexeme.Signed byte else None
+abbrev pub Reader : Type 0
+Reader = List ℕ → Option (Option Bool × List ℕ)
 
-abbrev pub in_signed : Condition → ℕ → Option Condition
-in_signed c byte =
-    if is_ascii_digit byte then extended c lexeme.Signed byte
-    else if is_word_character byte then None
-    else ends_operand c true byte
+abbrev pub test_in : Reader → List ℕ → List ℕ → Option (Option Bool × List ℕ)
+test_in inner text [] = None
+test_in inner text (c ∷ cs) = if c == 40 then inner cs else comparison text
 
-abbrev pub in_digits : Condition → ℕ → Option Condition
-in_digits c byte =
-    if is_ascii_digit byte then extended c lexeme.Digits byte
-    else if is_word_character byte then extended c lexeme.Word byte
-    else ends_operand c true byte
+-- a comparison, or what stands in a parenthesis
+unfoldable pub test : Reader → List ℕ → Option (Option Bool × List ℕ)
+test inner text = test_in inner text (after_blanks text)
 
-abbrev pub in_word : Condition → ℕ → Option Condition
-in_word c byte = if is_word_character byte then extended c lexeme.Word byte else ends_operand c false byte
+-- `&&` or `||` by its character
+unfoldable pub joint_at : ℕ → List ℕ → Option (Unit {0} × List ℕ)
+joint_at mark text = joint_in mark (after_blanks text)
 
-abbrev pub in_quotes : Condition → ℕ → Option Condition
-in_quotes c byte = if byte == 34 then with_operand c false else extended c lexeme.Quoted byte
+unfoldable pub conjunction : Reader → List ℕ → Option (Option Bool × List ℕ)
+conjunction inner text = chain (joint_at 38) (λ joint. both) (test inner) text
 
--- `<` or `>`, and then another character
-abbrev pub after_order : Condition → ℕ → Option Condition
-after_order c byte =
-    if c.mark == 60 then option_and_then (λ next. begins next byte) (with_comparison c Less)
-    else if c.mark == 62 then option_and_then (λ next. begins next byte) (with_comparison c Greater)
-    else None
+unfoldable pub alternatives : Reader → List ℕ → Option (Option Bool × List ℕ)
+alternatives inner text = chain (joint_at 124) (λ joint. either) (conjunction inner) text
 
-abbrev pub after_mark_or : Condition → Option Comparison → ℕ → Option Condition
-after_mark_or c (Some comparison) byte = with_comparison c comparison
-after_mark_or c None byte =
-    if (c.mark == 38) && (byte == 38) then with_join c false
-    else if (c.mark == 124) && (byte == 124) then with_join c true
-    else after_order c byte
-
-abbrev pub after_mark : Condition → ℕ → Option Condition
-after_mark c byte = after_mark_or c (comparison_of c.mark byte) byte
-
-abbrev pub step_in : Condition → lexemes.Lexeme → ℕ → Option Condition
-step_in c lexeme.Between byte = begins c byte
-step_in c lexeme.Sign byte = after_sign c byte
-step_in c lexeme.Signed byte = in_signed c byte
-step_in c lexeme.Digits byte = in_digits c byte
-step_in c lexeme.Word byte = in_word c byte
-step_in c lexeme.Quoted byte = in_quotes c byte
-step_in c lexeme.Mark byte = after_mark c byte
-
--- one more character
-abbrev pub step : Condition → ℕ → Option Condition
-step c byte = step_in c c.lexeme byte
-
-abbrev pub ended_in : Condition → lexemes.Lexeme → Option Condition
-ended_in c lexeme.Between = Some c
-ended_in c lexeme.Signed = with_operand c true
-ended_in c lexeme.Digits = with_operand c true
-ended_in c lexeme.Word = with_operand c false
-ended_in c _ = None
-
--- no further character comes
-abbrev pub ended_lexeme : Condition → Option Condition
-ended_lexeme c = ended_in c c.lexeme
-
-abbrev pub value_in : Condition → stages.Stage → Option (Option Bool)
-value_in c stage.Joined = if length c.outer == 0 then Some (value c.group) else None
-value_in c _ = None
-
-abbrev pub value_at_end : Condition → Option (Option Bool)
-value_at_end c = value_in c c.stage
-
--- what a text comes to behind what is read
-unfoldable pub read : Condition → List ℕ → Option Condition
-read c [] = Some c
-read c (byte ∷ text) = option_and_then (λ next. read next text) (step c byte)
-
-abbrev pub truth_read : Option Condition → Option (Option Bool)
-truth_read c = option_and_then value_at_end (option_and_then ended_lexeme c)
+-- what stands in a parenthesis, where so many more may be open
+abbrev pub parenthesis : ℕ → List ℕ → Option (Option Bool × List ℕ)
+parenthesis deeper = within alternatives deeper
 
 -- Whether the condition of a text holds: none where it is no condition, `Some None` where a number is out of range.
 abbrev pub truth_of : List ℕ → Option (Option Bool)
-truth_of text = truth_read (read begun text)
+truth_of text = read_whole alternatives text

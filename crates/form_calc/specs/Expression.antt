@@ -3,7 +3,8 @@
 use Rattle.std.specs.Prelude.{◌≡◌, ◌≢◌, ◌≤◌, ℕ, ℤ, pos, ◌+◌, ◌-◌, ◌*◌, max, true, List, [], ◌∷◌, ◌++◌, fold, Option}
 use Rattle.std.specs.List.{list_all}
 use Rattle.form_calc.specs.Number as numbers
-use Rattle.form_calc.specs.Calculation.{is_digit, is_blank, most_open}
+use Rattle.form_calc.specs.Calculation.{is_digit}
+use Rattle.form_calc.specs.Reading.{is_blank, most_open}
 
 mutual
   -- products, with `+` or `-` before each but the first

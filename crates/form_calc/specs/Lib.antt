@@ -4,4 +4,5 @@ pub mod Condition
 pub mod Expression
 pub mod Number
 pub mod Proposition
+pub mod Reading
 pub mod Stack

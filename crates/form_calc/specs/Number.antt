@@ -1,5 +1,5 @@
 -- Whole numbers of 128 bits. None stands for what is out of range, and so for all that is reckoned with it.
-use Rattle.std.specs.Prelude.{List, [], ◌∷◌, ℕ, ℤ, pos, negsuc, ◌+ℤ◌, ◌-ℤ◌, ◌*ℤ◌, neg_ℤ, int_div, int_rem, ◌-◌, Bool, true, false, nat_le, if◌then◌else◌, Option, Some, None, ◌==◌}
+use Rattle.std.specs.Prelude.{List, [], ◌∷◌, ℕ, ℤ, pos, negsuc, ◌+ℤ◌, ◌-ℤ◌, ◌*ℤ◌, neg_ℤ, int_div, int_rem, ◌-◌, Bool, false, nat_le, if◌then◌else◌, Option, Some, None, ◌==◌}
 
 -- 2^127-1
 abbrev pub largest : ℕ
@@ -55,7 +55,7 @@ digit byte = Some (pos (byte - 48))
 abbrev pub with_digit : Option ℤ → ℕ → Option ℤ
 with_digit n byte = plus (times n (Some (pos 10))) (digit byte)
 
--- the same below 0
+-- a number below 0 with one more digit behind it
 abbrev pub with_digit_below : Option ℤ → ℕ → Option ℤ
 with_digit_below n byte = minus (times n (Some (pos 10))) (digit byte)
 
@@ -67,7 +67,7 @@ unfoldable pub read_up : Option ℤ → List ℕ → Option ℤ
 read_up n [] = n
 read_up n (byte ∷ digits) = read_up (with_digit n byte) digits
 
--- the same below 0
+-- the number below 0 that digits give behind one
 unfoldable pub read_down : Option ℤ → List ℕ → Option ℤ
 read_down n [] = n
 read_down n (byte ∷ digits) = read_down (with_digit_below n byte) digits

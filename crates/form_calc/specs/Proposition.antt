@@ -4,10 +4,9 @@ use Rattle.std.specs.Prelude.{◌≡◌, ◌≢◌, ◌⊎◌, ℕ, ◌+◌, ◌
 use Rattle.std.specs.List.{list_all}
 use Rattle.std.specs.Char.{is_ascii_digit}
 use Rattle.form_calc.specs.Number.{number_of}
-use Rattle.form_calc.specs.Calculation.{is_blank, most_open}
+use Rattle.form_calc.specs.Reading.{is_blank, most_open}
 use Rattle.form_calc.specs.Condition as conditions
-use Rattle.form_calc.specs.Condition.{compared_numbers, compared_texts, is_word_character}
-use Rattle.form_calc.specs.declared.operand.Operand.{Operand}
+use Rattle.form_calc.specs.Condition.{Operand, compared_numbers, compared_texts, is_word_character}
 use Rattle.form_calc.specs.declared.operand.Comparison.{Comparison}
 use Rattle.form_calc.specs.declared.operand.Comparison.TheVariants.{Equal, Unequal, Less, Greater, LessOrEqual, GreaterOrEqual}
 

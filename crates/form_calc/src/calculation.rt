@@ -1,189 +1,105 @@
-ghost use Rattle.std.specs.Prelude.{◌≡◌, ◌≤◌, Some, None, MatchResult, MatchOption};
+ghost use Rattle.std.specs.Prelude.{◌≡◌, Some, None, MatchOption};
 ghost use Rattle.form_calc.specs.Calculation as calculation;
-ghost use Rattle.form_calc.specs.Answers.{IsStep, IsCalculated};
+ghost use Rattle.form_calc.specs.Answers.{IsCalculated};
 
-use crate::level::{Level, Operator, Sign};
-use crate::{CalcError, Number, Stack};
-use std::alloc::Global;
+use crate::CalcError;
+use crate::blanks::{after_blanks, closing};
+use crate::numerals::{after_signs, numeral, signed};
+use crate::operator::{added, operator_at, sign_at};
 
 /// The most parentheses that may be open.
-const MOST_OPEN: usize = 64;
+const MOST_OPEN: u64 = 64;
 
-/// What is read now.
-#[derive(Clone, Copy, Debug)]
-pub enum Reading {
-    /// A sign, a number or a parenthesis is expected.
-    Operand,
-    /// The digits of a number.
-    Digits,
-    /// An operator or the end of a parenthesis is expected.
-    Operator,
+/// The sum at the front, and what follows it. `deeper` is how many more parentheses may be open. Each turn reads an operator, so
+/// that the text has turns enough.
+#[cycle(calculation)]
+#[tactic(auto, using(crate::proofs::Chains::one_turn), unfolding(crate::specs::Calculation::sum, crate::specs::Reading::chained))]
+fn sum(text: &[u8], deeper: u64) -> Option<(Option<i128>, &[u8])>
+    ensures { MatchOption result (calculation.sum (calculation.parenthesis deeper) text.now ≡ None) (λ x. calculation.sum (calculation.parenthesis deeper) text.now ≡ Some (x.0, x.1.now)) }
+{
+    let (first, behind) = product(text, deeper)?;
+    let mut value = first;
+    let mut rest = behind;
+    for _turn in text {
+        let Some((is_minus, behind)) = sign_at(rest) else {
+            return Some((value, rest));
+        };
+        let (right, more) = product(behind, deeper)?;
+        value = added(is_minus, value, right);
+        rest = more;
+    }
+    Some((value, rest))
 }
 
-/// A sum in which a parenthesis is open, and the signs before that.
-#[derive(Clone, Copy, Debug)]
-pub struct Open {
-    pub level: Level,
-    pub sign: Sign,
+/// The product at the front, and what follows it.
+#[cycle(calculation)]
+#[tactic(auto, using(crate::proofs::Chains::one_turn), unfolding(crate::specs::Calculation::product, crate::specs::Reading::chained))]
+fn product(text: &[u8], deeper: u64) -> Option<(Option<i128>, &[u8])>
+    ensures { MatchOption result (calculation.product (calculation.parenthesis deeper) text.now ≡ None) (λ x. calculation.product (calculation.parenthesis deeper) text.now ≡ Some (x.0, x.1.now)) }
+{
+    let (first, behind) = factor(text, deeper)?;
+    let mut value = first;
+    let mut rest = behind;
+    for _turn in text {
+        let Some((operator, behind)) = operator_at(rest) else {
+            return Some((value, rest));
+        };
+        let (right, more) = factor(behind, deeper)?;
+        value = operator.applied(value, right);
+        rest = more;
+    }
+    Some((value, rest))
 }
 
-/// A calculation that is read up to a place.
-#[derive(Debug, Drop)]
-pub struct Calculation {
-    /// What stands outside the parentheses that are open, the innermost first.
-    outer: Stack<Open>,
-    level: Level,
-    /// The signs before the operand that is read.
-    sign: Sign,
-    /// The number that its digits give so far.
-    number: Number,
-    reading: Reading,
+/// The factor at the front with its signs, and what follows it.
+#[cycle(calculation)]
+#[tactic(auto, unfolding(crate::specs::Calculation::factor))]
+fn factor(text: &[u8], deeper: u64) -> Option<(Option<i128>, &[u8])>
+    ensures { MatchOption result (calculation.factor (calculation.parenthesis deeper) text.now ≡ None) (λ x. calculation.factor (calculation.parenthesis deeper) text.now ≡ Some (x.0, x.1.now)) }
+{
+    let (value, rest) = primary(after_signs(text), deeper)?;
+    Some((signed(text, value), rest))
 }
 
-impl Calculation {
-    fn new(alloc: Global) -> Calculation
-        ensures { result ≡ calculation.begun }
-    {
-        Calculation {
-            outer: Stack::new(alloc),
-            level: Level::new(),
-            sign: Sign::Unsigned,
-            number: Number::zero(),
-            reading: Reading::Operand,
-        }
+/// The number or the parenthesis at the front, and what follows it.
+#[cycle(calculation)]
+#[tactic(auto, unfolding(crate::specs::Calculation::primary))]
+fn primary(text: &[u8], deeper: u64) -> Option<(Option<i128>, &[u8])>
+    ensures { MatchOption result (calculation.primary (calculation.parenthesis deeper) text.now ≡ None) (λ x. calculation.primary (calculation.parenthesis deeper) text.now ≡ Some (x.0, x.1.now)) }
+{
+    let [first, inside @ ..] = text else {
+        return None;
+    };
+    if *first == b'(' {
+        parenthesis(inside, deeper)
+    } else {
+        numeral(text)
     }
+}
 
-    /// Ends the number whose digits are read.
-    fn finish_number(&mut self)
-        ensures { self.new ≡ calculation.finished self.old }
-    {
-        if let Reading::Digits = self.reading {
-            self.level = self.level.with_factor(self.sign.applied(self.number));
-            self.reading = Reading::Operator;
-        }
+/// What stands in the parenthesis that is open here, and what follows it.
+#[cycle(calculation)]
+#[tactic(auto, using(crate::proofs::Chains::within_none, crate::proofs::Chains::within_next))]
+fn parenthesis(text: &[u8], deeper: u64) -> Option<(Option<i128>, &[u8])>
+    ensures { MatchOption result (calculation.parenthesis deeper text.now ≡ None) (λ x. calculation.parenthesis deeper text.now ≡ Some (x.0, x.1.now)) }
+{
+    if deeper == 0 {
+        return None;
     }
-
-    fn expect_operand(&mut self, level: Level)
-        ensures { self.new ≡ calculation.expecting self.old level }
-    {
-        self.level = level;
-        self.sign = Sign::Unsigned;
-        self.reading = Reading::Operand;
-    }
-
-    fn open(&mut self) -> Result<(), CalcError>
-        ensures { IsStep self.new result (calculation.opened self.old) }
-    {
-        if self.outer.len() >= MOST_OPEN {
-            return Err(CalcError::IllFormed);
-        }
-        let open = Open {
-            level: self.level,
-            sign: self.sign,
-        };
-        self.outer.push(open)?;
-        self.expect_operand(Level::new());
-        Ok(())
-    }
-
-    fn close(&mut self) -> Result<(), CalcError>
-        ensures { IsStep self.new result (calculation.closed self.old) }
-    {
-        let Some(open) = self.outer.pop() else {
-            return Err(CalcError::IllFormed);
-        };
-        let value = open.sign.applied(self.level.total());
-        self.level = open.level.with_factor(value);
-        self.reading = Reading::Operator;
-        Ok(())
-    }
-
-    fn take_digit(&mut self, byte: u8) -> Result<(), CalcError>
-        ensures { IsStep self.new result (calculation.with_digit self.old byte) }
-    {
-        self.number = match self.reading {
-            Reading::Operand => Number::digit(byte),
-            Reading::Digits => self.number.with_digit(byte),
-            Reading::Operator => return Err(CalcError::IllFormed),
-        };
-        self.reading = Reading::Digits;
-        Ok(())
-    }
-
-    /// A character before an operand.
-    fn take_before(&mut self, byte: u8) -> Result<(), CalcError>
-        ensures { IsStep self.new result (calculation.before_operand self.old byte) }
-    {
-        match byte {
-            b' ' | b'\t' | b'+' => Ok(()),
-            b'-' => {
-                self.sign = self.sign.turned();
-                Ok(())
-            }
-            b'(' => self.open(),
-            _ => Err(CalcError::IllFormed),
-        }
-    }
-
-    /// A character behind an operand.
-    fn take_behind(&mut self, byte: u8) -> Result<(), CalcError>
-        ensures { IsStep self.new result (calculation.behind_operand self.old byte) }
-    {
-        let level = match byte {
-            b' ' | b'\t' => return Ok(()),
-            b')' => return self.close(),
-            b'+' => self.level.with_product(false),
-            b'-' => self.level.with_product(true),
-            b'*' => self.level.with_operator(Operator::Times),
-            b'/' => self.level.with_operator(Operator::Over),
-            b'%' => self.level.with_operator(Operator::Rest),
-            _ => return Err(CalcError::IllFormed),
-        };
-        self.expect_operand(level);
-        Ok(())
-    }
-
-    fn take_mark(&mut self, byte: u8) -> Result<(), CalcError>
-        ensures { IsStep self.new result (calculation.with_mark self.old byte) }
-    {
-        self.finish_number();
-        match self.reading {
-            Reading::Operand => self.take_before(byte),
-            _ => self.take_behind(byte),
-        }
-    }
-
-    /// Reads one more character.
-    fn take(&mut self, byte: u8) -> Result<(), CalcError>
-        ensures { IsStep self.new result (calculation.step self.old byte) }
-    {
-        if byte >= b'0' && byte <= b'9' {
-            self.take_digit(byte)
-        } else {
-            self.take_mark(byte)
-        }
-    }
-
-    /// The value, where all is read.
-    fn end(mut self) -> Result<Number, CalcError>
-        ensures { MatchResult result (λ n. calculation.end_of self ≡ Some n) (λ e. (e ≡ CalcError.IllFormed) × (calculation.end_of self ≡ None)) }
-    {
-        self.finish_number();
-        match self.reading {
-            Reading::Operator if self.outer.len() == 0 => Ok(self.level.total()),
-            _ => Err(CalcError::IllFormed),
-        }
-    }
+    let (value, rest) = sum(text, deeper - 1)?;
+    let behind = closing(rest)?;
+    Some((value, behind))
 }
 
 /// The value of what stands in braces.
-#[tactic(auto, unfolding(crate::specs::Calculation::read))]
-pub fn calculate(alloc: Global, text: &[u8]) -> Result<i128, CalcError>
+pub fn calculate(text: &[u8]) -> Result<i128, CalcError>
     ensures { IsCalculated result (calculation.value_of text.now) }
 {
-    let mut calculation = Calculation::new(alloc);
-    for byte in text {
-        calculation.take(*byte)?;
+    let Some((value, rest)) = sum(text, MOST_OPEN) else {
+        return Err(CalcError::IllFormed);
+    };
+    if !after_blanks(rest).is_empty() {
+        return Err(CalcError::IllFormed);
     }
-    calculation.end()?.value().ok_or(CalcError::OutOfRange)
+    value.ok_or(CalcError::OutOfRange)
 }

@@ -1,111 +1,17 @@
-ghost use Rattle.std.specs.Prelude.{◌≡◌};
+ghost use Rattle.std.specs.Prelude.{◌≡◌, Some, None, MatchOption};
 ghost use Rattle.form_calc.specs.Condition as condition;
-ghost use Rattle.form_calc.specs.Answers.{IsStep, IsCalculated};
+ghost use Rattle.form_calc.specs.Answers.{IsCalculated};
 
-use crate::operand::{Comparison, Operand, compare};
-use crate::{CalcError, Stack, Text};
-use std::alloc::Global;
-use std::mem;
+use crate::CalcError;
+use crate::blanks::{after_blanks, closing};
+use crate::marks::{behind_double, comparison_at};
+use crate::operand::compare;
+use crate::operands::operand;
 
 /// The most parentheses that may be open.
-const MOST_OPEN: usize = 64;
+const MOST_OPEN: u64 = 64;
 
-/// Comparisons that are read, outside the parentheses among them.
-#[derive(Clone, Copy, Debug)]
-pub struct Group {
-    /// Whether one of the alternatives before this one holds; none where a number is out of range.
-    pub any: Option<bool>,
-    /// Whether this alternative holds as far as it is read.
-    pub all: Option<bool>,
-}
-
-/// What is to come.
-#[derive(Clone, Copy, Debug)]
-pub enum Stage {
-    /// An operand, or a parenthesis.
-    First,
-    /// A comparison.
-    Compared,
-    /// The other operand.
-    Second,
-    /// `&&`, `||` or the end of a parenthesis.
-    Joined,
-}
-
-/// What is being read.
-#[derive(Clone, Copy, Debug)]
-pub enum Lexeme {
-    /// Nothing.
-    Between,
-    /// The sign of a number, without a digit yet.
-    Sign,
-    /// A number with a sign.
-    Signed,
-    /// Digits: a number, if no letter follows.
-    Digits,
-    Word,
-    /// A text in quotes, whose end is to come.
-    Quoted,
-    /// The first character of an operator.
-    Mark,
-}
-
-/// A condition that is read up to a place.
-#[derive(Debug, Drop)]
-pub struct Condition {
-    /// What stands outside the parentheses that are open, the innermost first.
-    outer: Stack<Group>,
-    group: Group,
-    stage: Stage,
-    first: Operand,
-    comparison: Comparison,
-    lexeme: Lexeme,
-    /// What is read of the lexeme.
-    text: Text,
-    /// The first character of an operator.
-    mark: u8,
-}
-
-impl Group {
-    fn new() -> Group
-        ensures { result ≡ condition.start }
-    {
-        Group {
-            any: Some(false),
-            all: Some(true),
-        }
-    }
-
-    /// Whether one of its alternatives holds.
-    fn value(self) -> Option<bool>
-        ensures { result ≡ condition.value self }
-    {
-        let any = self.any?;
-        let all = self.all?;
-        Some(any || all)
-    }
-
-    /// The same where this has to hold too.
-    fn with(self, truth: Option<bool>) -> Group
-        ensures { result ≡ condition.with_truth self truth }
-    {
-        Group {
-            any: self.any,
-            all: both(self.all, truth),
-        }
-    }
-
-    /// The same where the next alternative begins.
-    fn with_alternative(self) -> Group
-        ensures { result ≡ condition.with_alternative self }
-    {
-        Group {
-            any: self.value(),
-            all: Some(true),
-        }
-    }
-}
-
+/// Whether two things hold, none where one is out of range.
 fn both(a: Option<bool>, b: Option<bool>) -> Option<bool>
     ensures { result ≡ condition.both a b }
 {
@@ -114,342 +20,107 @@ fn both(a: Option<bool>, b: Option<bool>) -> Option<bool>
     Some(a && b)
 }
 
-/// Whether a character may stand in a word.
-fn is_word_character(byte: u8) -> bool
-    ensures { result ≡ condition.is_word_character byte }
+/// Whether one of two things holds, none where one is out of range.
+fn either(a: Option<bool>, b: Option<bool>) -> Option<bool>
+    ensures { result ≡ condition.either a b }
 {
-    byte.is_ascii_alphanumeric() || byte == b'_'
+    let a = a?;
+    let b = b?;
+    Some(a || b)
 }
 
-/// The comparison that two characters write.
-fn comparison_of(first: u8, second: u8) -> Option<Comparison>
-    ensures { result ≡ condition.comparison_of first second }
+/// Whether the alternatives at the front hold, and what follows them. `deeper` is how many more parentheses may be open. Each turn
+/// reads an operator, so that the text has turns enough.
+#[cycle(condition)]
+#[tactic(auto, using(crate::proofs::Chains::one_turn), unfolding(crate::specs::Condition::alternatives, crate::specs::Condition::joint_at, crate::specs::Reading::chained))]
+fn alternatives(text: &[u8], deeper: u64) -> Option<(Option<bool>, &[u8])>
+    ensures { MatchOption result (condition.alternatives (condition.parenthesis deeper) text.now ≡ None) (λ x. condition.alternatives (condition.parenthesis deeper) text.now ≡ Some (x.0, x.1.now)) }
 {
-    if second != b'=' {
+    let (first, behind) = conjunction(text, deeper)?;
+    let mut truth = first;
+    let mut rest = behind;
+    for _turn in text {
+        let Some(behind) = behind_double(b'|', rest) else {
+            return Some((truth, rest));
+        };
+        let (right, more) = conjunction(behind, deeper)?;
+        truth = either(truth, right);
+        rest = more;
+    }
+    Some((truth, rest))
+}
+
+/// Whether the tests at the front that `&&` joins hold, and what follows them.
+#[cycle(condition)]
+#[tactic(auto, using(crate::proofs::Chains::one_turn), unfolding(crate::specs::Condition::conjunction, crate::specs::Condition::joint_at, crate::specs::Reading::chained))]
+fn conjunction(text: &[u8], deeper: u64) -> Option<(Option<bool>, &[u8])>
+    ensures { MatchOption result (condition.conjunction (condition.parenthesis deeper) text.now ≡ None) (λ x. condition.conjunction (condition.parenthesis deeper) text.now ≡ Some (x.0, x.1.now)) }
+{
+    let (first, behind) = test(text, deeper)?;
+    let mut truth = first;
+    let mut rest = behind;
+    for _turn in text {
+        let Some(behind) = behind_double(b'&', rest) else {
+            return Some((truth, rest));
+        };
+        let (right, more) = test(behind, deeper)?;
+        truth = both(truth, right);
+        rest = more;
+    }
+    Some((truth, rest))
+}
+
+/// Whether the test at the front holds, and what follows it.
+#[cycle(condition)]
+#[tactic(auto, unfolding(crate::specs::Condition::test))]
+fn test(text: &[u8], deeper: u64) -> Option<(Option<bool>, &[u8])>
+    ensures { MatchOption result (condition.test (condition.parenthesis deeper) text.now ≡ None) (λ x. condition.test (condition.parenthesis deeper) text.now ≡ Some (x.0, x.1.now)) }
+{
+    let [first, inside @ ..] = after_blanks(text) else {
+        return None;
+    };
+    if *first == b'(' {
+        parenthesis(inside, deeper)
+    } else {
+        comparison(text)
+    }
+}
+
+/// Whether the alternatives in the parenthesis that is open here hold, and what follows it.
+#[cycle(condition)]
+#[tactic(auto, using(crate::proofs::Chains::within_none, crate::proofs::Chains::within_next))]
+fn parenthesis(text: &[u8], deeper: u64) -> Option<(Option<bool>, &[u8])>
+    ensures { MatchOption result (condition.parenthesis deeper text.now ≡ None) (λ x. condition.parenthesis deeper text.now ≡ Some (x.0, x.1.now)) }
+{
+    if deeper == 0 {
         return None;
     }
-    match first {
-        b'=' => Some(Comparison::Equal),
-        b'!' => Some(Comparison::Unequal),
-        b'<' => Some(Comparison::LessOrEqual),
-        b'>' => Some(Comparison::GreaterOrEqual),
-        _ => None,
-    }
+    let (truth, rest) = alternatives(text, deeper - 1)?;
+    let behind = closing(rest)?;
+    Some((truth, behind))
 }
 
-impl Condition {
-    fn new(alloc: Global) -> Condition
-        ensures { result ≡ condition.begun }
-    {
-        Condition {
-            outer: Stack::new(alloc),
-            group: Group::new(),
-            stage: Stage::First,
-            first: Operand {
-                text: Text::new(alloc),
-                is_number: false,
-            },
-            comparison: Comparison::Equal,
-            lexeme: Lexeme::Between,
-            text: Text::new(alloc),
-            mark: 0,
-        }
-    }
-
-    /// Ends an operand, which is what was read.
-    fn take_operand(&mut self, alloc: Global, is_number: bool) -> Result<(), CalcError>
-        ensures { IsStep self.new result (condition.with_operand self.old is_number) }
-    {
-        let text = mem::replace(&mut self.text, Text::new(alloc));
-        let operand = Operand { text, is_number };
-        self.lexeme = Lexeme::Between;
-        match self.stage {
-            Stage::First => {
-                self.first = operand;
-                self.stage = Stage::Compared;
-                Ok(())
-            }
-            Stage::Second => self.compare(&operand),
-            _ => Err(CalcError::IllFormed),
-        }
-    }
-
-    /// Compares with the second operand.
-    fn compare(&mut self, second: &Operand) -> Result<(), CalcError>
-        ensures { IsStep self.new result (condition.with_second self.old second.now) }
-    {
-        let Some(truth) = compare(self.comparison, &self.first, second) else {
-            return Err(CalcError::IllFormed);
-        };
-        self.group = self.group.with(truth);
-        self.stage = Stage::Joined;
-        Ok(())
-    }
-
-    fn take_comparison(&mut self, comparison: Comparison) -> Result<(), CalcError>
-        ensures { IsStep self.new result (condition.with_comparison self.old comparison) }
-    {
-        self.lexeme = Lexeme::Between;
-        match self.stage {
-            Stage::Compared => {
-                self.comparison = comparison;
-                self.stage = Stage::Second;
-                Ok(())
-            }
-            _ => Err(CalcError::IllFormed),
-        }
-    }
-
-    /// `&&`, or `||` where an alternative begins.
-    fn take_join(&mut self, is_alternative: bool) -> Result<(), CalcError>
-        ensures { IsStep self.new result (condition.with_join self.old is_alternative) }
-    {
-        self.lexeme = Lexeme::Between;
-        match self.stage {
-            Stage::Joined => {
-                if is_alternative {
-                    self.group = self.group.with_alternative();
-                }
-                self.stage = Stage::First;
-                Ok(())
-            }
-            _ => Err(CalcError::IllFormed),
-        }
-    }
-
-    fn open(&mut self) -> Result<(), CalcError>
-        ensures { IsStep self.new result (condition.opened self.old) }
-    {
-        match self.stage {
-            Stage::First => {
-                if self.outer.len() >= MOST_OPEN {
-                    return Err(CalcError::IllFormed);
-                }
-                self.outer.push(self.group)?;
-                self.group = Group::new();
-                Ok(())
-            }
-            _ => Err(CalcError::IllFormed),
-        }
-    }
-
-    fn close(&mut self) -> Result<(), CalcError>
-        ensures { IsStep self.new result (condition.closed self.old) }
-    {
-        match self.stage {
-            Stage::Joined => {
-                let Some(outside) = self.outer.pop() else {
-                    return Err(CalcError::IllFormed);
-                };
-                self.group = outside.with(self.group.value());
-                Ok(())
-            }
-            _ => Err(CalcError::IllFormed),
-        }
-    }
-
-    /// Begins a lexeme of this kind with its first character.
-    fn begin_with(&mut self, alloc: Global, lexeme: Lexeme, byte: u8) -> Result<(), CalcError>
-        ensures { IsStep self.new result (condition.begun_with self.old lexeme byte) }
-    {
-        let mut text = Text::new(alloc);
-        text.push(byte)?;
-        self.text = text;
-        self.lexeme = lexeme;
-        Ok(())
-    }
-
-    /// A character where nothing is being read.
-    fn begin(&mut self, alloc: Global, byte: u8) -> Result<(), CalcError>
-        ensures { IsStep self.new result (condition.begins self.old byte) }
-    {
-        self.lexeme = Lexeme::Between;
-        match byte {
-            b' ' | b'\t' => Ok(()),
-            b'(' => self.open(),
-            b')' => self.close(),
-            b'+' | b'-' => self.begin_with(alloc, Lexeme::Sign, byte),
-            b'"' => {
-                self.text = Text::new(alloc);
-                self.lexeme = Lexeme::Quoted;
-                Ok(())
-            }
-            b'&' | b'|' | b'=' | b'!' | b'<' | b'>' => {
-                self.mark = byte;
-                self.lexeme = Lexeme::Mark;
-                Ok(())
-            }
-            _ => self.begin_word(alloc, byte),
-        }
-    }
-
-    fn begin_word(&mut self, alloc: Global, byte: u8) -> Result<(), CalcError>
-        ensures { IsStep self.new result (condition.begins_word self.old byte) }
-    {
-        if byte.is_ascii_digit() {
-            self.begin_with(alloc, Lexeme::Digits, byte)
-        } else if is_word_character(byte) {
-            self.begin_with(alloc, Lexeme::Word, byte)
-        } else {
-            Err(CalcError::IllFormed)
-        }
-    }
-
-    /// A further character of what is being read, which is of this kind then.
-    fn extend(&mut self, lexeme: Lexeme, byte: u8) -> Result<(), CalcError>
-        ensures { IsStep self.new result (condition.extended self.old lexeme byte) }
-    {
-        self.text.push(byte)?;
-        self.lexeme = lexeme;
-        Ok(())
-    }
-
-    /// Ends an operand at the first character behind it.
-    fn end_operand(&mut self, alloc: Global, is_number: bool, byte: u8) -> Result<(), CalcError>
-        ensures { IsStep self.new result (condition.ends_operand self.old is_number byte) }
-    {
-        self.take_operand(alloc, is_number)?;
-        self.begin(alloc, byte)
-    }
-
-    /// A character behind the sign of a number.
-    fn take_after_sign(&mut self, byte: u8) -> Result<(), CalcError>
-        ensures { IsStep self.new result (condition.after_sign self.old byte) }
-    {
-        if byte.is_ascii_digit() {
-            self.extend(Lexeme::Signed, byte)
-        } else {
-            Err(CalcError::IllFormed)
-        }
-    }
-
-    /// A character in or behind a number with a sign.
-    fn take_signed(&mut self, alloc: Global, byte: u8) -> Result<(), CalcError>
-        ensures { IsStep self.new result (condition.in_signed self.old byte) }
-    {
-        if byte.is_ascii_digit() {
-            self.extend(Lexeme::Signed, byte)
-        } else if is_word_character(byte) {
-            Err(CalcError::IllFormed)
-        } else {
-            self.end_operand(alloc, true, byte)
-        }
-    }
-
-    /// A character in or behind digits.
-    fn take_digits(&mut self, alloc: Global, byte: u8) -> Result<(), CalcError>
-        ensures { IsStep self.new result (condition.in_digits self.old byte) }
-    {
-        if byte.is_ascii_digit() {
-            self.extend(Lexeme::Digits, byte)
-        } else if is_word_character(byte) {
-            self.extend(Lexeme::Word, byte)
-        } else {
-            self.end_operand(alloc, true, byte)
-        }
-    }
-
-    /// A character in or behind a word.
-    fn take_word(&mut self, alloc: Global, byte: u8) -> Result<(), CalcError>
-        ensures { IsStep self.new result (condition.in_word self.old byte) }
-    {
-        if is_word_character(byte) {
-            self.extend(Lexeme::Word, byte)
-        } else {
-            self.end_operand(alloc, false, byte)
-        }
-    }
-
-    /// A character in a text in quotes, or its end.
-    fn take_quoted(&mut self, alloc: Global, byte: u8) -> Result<(), CalcError>
-        ensures { IsStep self.new result (condition.in_quotes self.old byte) }
-    {
-        if byte == b'"' {
-            self.take_operand(alloc, false)
-        } else {
-            self.extend(Lexeme::Quoted, byte)
-        }
-    }
-
-    /// A character behind the first one of an operator.
-    fn take_after_mark(&mut self, alloc: Global, byte: u8) -> Result<(), CalcError>
-        ensures { IsStep self.new result (condition.after_mark self.old byte) }
-    {
-        if let Some(comparison) = comparison_of(self.mark, byte) {
-            return self.take_comparison(comparison);
-        }
-        if self.mark == b'&' && byte == b'&' {
-            return self.take_join(false);
-        }
-        if self.mark == b'|' && byte == b'|' {
-            return self.take_join(true);
-        }
-        self.take_after_order(alloc, byte)
-    }
-
-    /// A character behind `<` or `>`.
-    fn take_after_order(&mut self, alloc: Global, byte: u8) -> Result<(), CalcError>
-        ensures { IsStep self.new result (condition.after_order self.old byte) }
-    {
-        let comparison = if self.mark == b'<' {
-            Comparison::Less
-        } else if self.mark == b'>' {
-            Comparison::Greater
-        } else {
-            return Err(CalcError::IllFormed);
-        };
-        self.take_comparison(comparison)?;
-        self.begin(alloc, byte)
-    }
-
-    /// Reads one more character.
-    fn take(&mut self, alloc: Global, byte: u8) -> Result<(), CalcError>
-        ensures { IsStep self.new result (condition.step self.old byte) }
-    {
-        match self.lexeme {
-            Lexeme::Between => self.begin(alloc, byte),
-            Lexeme::Sign => self.take_after_sign(byte),
-            Lexeme::Signed => self.take_signed(alloc, byte),
-            Lexeme::Digits => self.take_digits(alloc, byte),
-            Lexeme::Word => self.take_word(alloc, byte),
-            Lexeme::Quoted => self.take_quoted(alloc, byte),
-            Lexeme::Mark => self.take_after_mark(alloc, byte),
-        }
-    }
-
-    /// Ends what is being read where no character follows.
-    fn end_lexeme(&mut self, alloc: Global) -> Result<(), CalcError>
-        ensures { IsStep self.new result (condition.ended_lexeme self.old) }
-    {
-        match self.lexeme {
-            Lexeme::Between => Ok(()),
-            Lexeme::Signed | Lexeme::Digits => self.take_operand(alloc, true),
-            Lexeme::Word => self.take_operand(alloc, false),
-            _ => Err(CalcError::IllFormed),
-        }
-    }
-
-    /// The value, where what was read is whole.
-    fn value(self) -> Option<Option<bool>>
-        ensures { result ≡ condition.value_at_end self }
-    {
-        match self.stage {
-            Stage::Joined if self.outer.len() == 0 => Some(self.group.value()),
-            _ => None,
-        }
-    }
+/// Whether the comparison at the front holds, and what follows it.
+#[tactic(auto, unfolding(crate::specs::Condition::comparison))]
+fn comparison(text: &[u8]) -> Option<(Option<bool>, &[u8])>
+    ensures { MatchOption result (condition.comparison text.now ≡ None) (λ x. condition.comparison text.now ≡ Some (x.0, x.1.now)) }
+{
+    let (first, is_first_number, rest) = operand(text)?;
+    let (comparison, rest) = comparison_at(rest)?;
+    let (second, is_second_number, rest) = operand(rest)?;
+    let truth = compare(comparison, first, is_first_number, second, is_second_number)?;
+    Some((truth, rest))
 }
 
 /// Whether a condition holds.
-#[tactic(auto, unfolding(crate::specs::Condition::read))]
-pub fn holds(alloc: Global, text: &[u8]) -> Result<bool, CalcError>
+pub fn holds(text: &[u8]) -> Result<bool, CalcError>
     ensures { IsCalculated result (condition.truth_of text.now) }
 {
-    let mut condition = Condition::new(alloc);
-    for byte in text {
-        condition.take(alloc, *byte)?;
+    let Some((truth, rest)) = alternatives(text, MOST_OPEN) else {
+        return Err(CalcError::IllFormed);
+    };
+    if !after_blanks(rest).is_empty() {
+        return Err(CalcError::IllFormed);
     }
-    condition.end_lexeme(alloc)?;
-    let value = condition.value().ok_or(CalcError::IllFormed)?;
-    value.ok_or(CalcError::OutOfRange)
+    truth.ok_or(CalcError::OutOfRange)
 }

@@ -1,12 +1,16 @@
 #![tactic(auto)]
 
+mod blanks;
 mod calculation;
 mod condition;
 mod error;
 pub mod laws;
-mod level;
+mod marks;
 mod number;
+mod numerals;
 mod operand;
+mod operands;
+mod operator;
 mod row;
 mod stack;
 mod text;

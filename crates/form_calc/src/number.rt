@@ -32,21 +32,6 @@ impl Number {
         Number { value: Some(1) }
     }
 
-    fn ten() -> Number
-        ensures { result ≡ Some (pos 10) }
-    {
-        Number { value: Some(10) }
-    }
-
-    /// The number of a decimal digit.
-    pub fn digit(byte: u8) -> Number
-        ensures { result ≡ number.digit byte }
-    {
-        Number {
-            value: Some(i128::from(byte.saturating_sub(b'0'))),
-        }
-    }
-
     pub fn value(self) -> Option<i128>
         ensures { result ≡ self }
     {
@@ -61,88 +46,74 @@ impl Number {
         }
     }
 
-    pub fn minus(self, other: Number) -> Number
-        ensures { result ≡ number.minus self other }
+    /// The number with this value, or none.
+    pub(crate) fn new(value: Option<i128>) -> Number
+        ensures { result ≡ value }
     {
-        Number {
-            value: difference(self.value, other.value),
-        }
-    }
-
-    pub fn times(self, other: Number) -> Number
-        ensures { result ≡ number.times self other }
-    {
-        Number {
-            value: product(self.value, other.value),
-        }
-    }
-
-    /// The quotient, without what is behind the point.
-    pub fn over(self, other: Number) -> Number
-        ensures { result ≡ number.over self other }
-    {
-        Number {
-            value: quotient(self.value, other.value),
-        }
-    }
-
-    /// What a division leaves, with the sign of the dividend.
-    pub fn rest(self, other: Number) -> Number
-        ensures { result ≡ number.rest self other }
-    {
-        Number {
-            value: remainder(self.value, other.value),
-        }
-    }
-
-    pub fn negated(self) -> Number
-        ensures { result ≡ number.negated self }
-    {
-        Number {
-            value: opposite(self.value),
-        }
-    }
-
-    /// The number with one more decimal digit.
-    pub fn with_digit(self, byte: u8) -> Number
-        ensures { result ≡ number.with_digit self byte }
-    {
-        self.times(Number::ten()).plus(Number::digit(byte))
-    }
-
-    /// The same below 0.
-    pub fn with_digit_below(self, byte: u8) -> Number
-        ensures { result ≡ number.with_digit_below self byte }
-    {
-        self.times(Number::ten()).minus(Number::digit(byte))
+        Number { value }
     }
 }
 
-fn sum(a: Option<i128>, b: Option<i128>) -> Option<i128>
+pub fn zero() -> Option<i128>
+    ensures { result ≡ Some (pos 0) }
+{
+    Some(0)
+}
+
+fn ten() -> Option<i128>
+    ensures { result ≡ Some (pos 10) }
+{
+    Some(10)
+}
+
+/// The number of a decimal digit.
+fn digit(byte: u8) -> Option<i128>
+    ensures { result ≡ number.digit byte }
+{
+    Some(i128::from(byte.saturating_sub(b'0')))
+}
+
+/// A number with one more decimal digit.
+pub fn with_digit(value: Option<i128>, byte: u8) -> Option<i128>
+    ensures { result ≡ number.with_digit value byte }
+{
+    sum(product(value, ten()), digit(byte))
+}
+
+/// A number below 0 with one more decimal digit.
+pub fn with_digit_below(value: Option<i128>, byte: u8) -> Option<i128>
+    ensures { result ≡ number.with_digit_below value byte }
+{
+    difference(product(value, ten()), digit(byte))
+}
+
+pub fn sum(a: Option<i128>, b: Option<i128>) -> Option<i128>
     ensures { result ≡ number.plus a b }
 {
     a?.checked_add(b?)
 }
 
-fn difference(a: Option<i128>, b: Option<i128>) -> Option<i128>
+pub fn difference(a: Option<i128>, b: Option<i128>) -> Option<i128>
     ensures { result ≡ number.minus a b }
 {
     a?.checked_sub(b?)
 }
 
-fn product(a: Option<i128>, b: Option<i128>) -> Option<i128>
+pub fn product(a: Option<i128>, b: Option<i128>) -> Option<i128>
     ensures { result ≡ number.times a b }
 {
     a?.checked_mul(b?)
 }
 
-fn quotient(a: Option<i128>, b: Option<i128>) -> Option<i128>
+/// The quotient, without what is behind the point.
+pub fn quotient(a: Option<i128>, b: Option<i128>) -> Option<i128>
     ensures { result ≡ number.over a b }
 {
     a?.checked_div(b?)
 }
 
-fn remainder(a: Option<i128>, b: Option<i128>) -> Option<i128>
+/// What a division leaves, with the sign of the dividend.
+pub fn remainder(a: Option<i128>, b: Option<i128>) -> Option<i128>
     ensures { result ≡ number.rest a b }
 {
     let a = a?;
@@ -150,7 +121,7 @@ fn remainder(a: Option<i128>, b: Option<i128>) -> Option<i128>
     if b == -1 { Some(0) } else { a.checked_rem(b) }
 }
 
-fn opposite(a: Option<i128>) -> Option<i128>
+pub fn opposite(a: Option<i128>) -> Option<i128>
     ensures { result ≡ number.negated a }
 {
     a?.checked_neg()

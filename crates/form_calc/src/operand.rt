@@ -1,8 +1,11 @@
+//! Numbers and comparisons of operands.
+
 ghost use Rattle.std.specs.Prelude.{◌≡◌};
 ghost use Rattle.form_calc.specs.Condition as condition;
 ghost use Rattle.form_calc.specs.Number as number;
 
-use crate::{Number, Text};
+use crate::Number;
+use crate::number::{with_digit, with_digit_below, zero};
 
 /// How two operands are compared.
 #[derive(Clone, Copy, Debug, PartialEq, Eq)]
@@ -15,35 +18,28 @@ pub enum Comparison {
     GreaterOrEqual,
 }
 
-/// What is compared: a number as it is written, or a text.
-#[derive(Debug, Drop)]
-pub struct Operand {
-    pub text: Text,
-    pub is_number: bool,
-}
-
 /// The number that digits give behind another one.
 #[tactic(auto, unfolding(crate::specs::Number::read_up))]
-fn read_up(digits: &[u8]) -> Number
+fn read_up(digits: &[u8]) -> Option<i128>
     ensures { result ≡ number.read_up (number.zero) digits.now }
 {
-    let mut number = Number::zero();
+    let mut value = zero();
     for byte in digits {
-        number = number.with_digit(*byte);
+        value = with_digit(value, *byte);
     }
-    number
+    value
 }
 
-/// The same below 0.
+/// The number below 0 that digits give.
 #[tactic(auto, unfolding(crate::specs::Number::read_down))]
-fn read_down(digits: &[u8]) -> Number
+fn read_down(digits: &[u8]) -> Option<i128>
     ensures { result ≡ number.read_down (number.zero) digits.now }
 {
-    let mut number = Number::zero();
+    let mut value = zero();
     for byte in digits {
-        number = number.with_digit_below(*byte);
+        value = with_digit_below(value, *byte);
     }
-    number
+    value
 }
 
 /// The number that a sign and digits give, none where it is out of range.
@@ -54,11 +50,11 @@ pub fn number_of(text: &[u8]) -> Number
         return Number::zero();
     };
     if *first == b'-' {
-        read_down(digits)
+        Number::new(read_down(digits))
     } else if *first == b'+' {
-        read_up(digits)
+        Number::new(read_up(digits))
     } else {
-        read_up(text)
+        Number::new(read_up(text))
     }
 }
 
@@ -90,13 +86,19 @@ fn compare_texts(comparison: Comparison, a: &[u8], b: &[u8]) -> Option<bool>
 }
 
 /// How two operands compare: none where they can't be compared so, and none in that where a number is out of range.
-pub fn compare(comparison: Comparison, a: &Operand, b: &Operand) -> Option<Option<bool>>
-    ensures { result ≡ condition.compared comparison a.now b.now }
+pub fn compare(
+    comparison: Comparison,
+    a: &[u8],
+    is_a_number: bool,
+    b: &[u8],
+    is_b_number: bool,
+) -> Option<Option<bool>>
+    ensures { result ≡ condition.compared comparison (record { text = a.now; is_number = is_a_number }) (record { text = b.now; is_number = is_b_number }) }
 {
-    if a.is_number && b.is_number {
-        let first = number_of(a.text.as_slice()).value();
-        let second = number_of(b.text.as_slice()).value();
+    if is_a_number && is_b_number {
+        let first = number_of(a).value();
+        let second = number_of(b).value();
         return Some(compare_numbers(comparison, first, second));
     }
-    Some(Some(compare_texts(comparison, a.text.as_slice(), b.text.as_slice())?))
+    Some(Some(compare_texts(comparison, a, b)?))
 }

@@ -59,7 +59,7 @@ impl<T> Row<T> {
         self.items
     }
 
-    /// The same as a stack with the first of them on top.
+    /// A stack of them with the first on top.
     pub fn into_stack(self) -> Stack<T>
         ensures { result ≡ self }
     {

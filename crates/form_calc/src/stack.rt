@@ -35,7 +35,7 @@ impl<T> Stack<T> {
         Stack { items }
     }
 
-    /// The same in a row, the newest first.
+    /// A row of them, the newest first.
     pub fn into_row(self) -> Row<T>
         ensures { result ≡ self }
     {

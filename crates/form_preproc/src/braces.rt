@@ -102,11 +102,10 @@ impl Braces {
         }
         let inside = mem::replace(&mut self.inside, Text::new(alloc));
         self.is_open = false;
-        match calculate(alloc, inside.as_slice()) {
+        match calculate(inside.as_slice()) {
             Ok(number) => Ok(append_number(alloc, &mut self.done, number)?),
             Err(CalcError::IllFormed) => Err(LineError::Refused(Cause::BadInstruction)),
             Err(CalcError::OutOfRange) => Err(LineError::Refused(Cause::CalcRange)),
-            Err(CalcError::Memory) => Err(LineError::Memory),
         }
     }
 

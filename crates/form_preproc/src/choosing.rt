@@ -35,11 +35,10 @@ fn condition_truth(
     ensures { Gives result (expansion.condition_truth kind (kept_in variables.now).values text.now) }
 {
     let text = prepared(alloc, variables, text)?;
-    match holds(alloc, trimmed(behind_key(kind, text.as_slice()))) {
+    match holds(trimmed(behind_key(kind, text.as_slice()))) {
         Ok(truth) => Ok(truth),
         Err(CalcError::IllFormed) => Err(LineError::Refused(Cause::BadInstruction)),
         Err(CalcError::OutOfRange) => Err(LineError::Refused(Cause::CalcRange)),
-        Err(CalcError::Memory) => Err(LineError::Memory),
     }
 }
 
