@@ -12,8 +12,8 @@ use Rattle.form_term.specs.Arguments.{arguments_of, first_summands}
 use Rattle.form_term.specs.Monomial.{as_monomial}
 use Rattle.form_term.specs.Reading.{coefficient_of}
 use Rattle.form_term.specs.Term.{Argument, is_nil, is_nothing}
-use Rattle.form_match.specs.declared.bindings.Wildcard.TheVariants.{Name, Field}
-use Rattle.form_match.specs.Values.{Binding, value_of}
+use Rattle.form_bindings.specs.declared.bindings.Wildcard.TheVariants.{Name, Field}
+use Rattle.form_bindings.specs.Values.{Binding, value_of}
 use Rattle.form_expand.specs.declared.stored.Stored.{Stored}
 use Rattle.form_expand.specs.Stored.{terms_in}
 

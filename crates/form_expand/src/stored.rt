@@ -1,15 +1,15 @@
 ghost use Rattle.std.specs.Prelude.{◌≡◌, ◌≤◌, nat_abs, IfOk, IfSome, option_map};
 ghost use Rattle.form_frac.specs.Fraction.{largest};
 ghost use Rattle.form_term.specs.Term.{AreArguments, pieces_of_arguments};
-ghost use Rattle.form_match.specs.Values.{IsValueOf, value_of as value_among};
+ghost use Rattle.form_bindings.specs.Values.{IsValueOf, value_of as value_among};
 ghost use Rattle.form_expand.specs.Bound.{exponent_in};
 ghost use Rattle.form_expand.specs.Meanings.{of_stored, bound_to, terms_of as terms_meant, index_of, vector_of, component_of, function_of, field_of, expression_of, exponent_bound};
 ghost use Rattle.form_expand.specs.Stored.{Rise, terms_in};
 
 use crate::value::{expression_in, function_in, index_in, turned, vector_in, whole_number};
 use form_base::Id;
+use form_bindings::{Bindings, Wildcard};
 use form_collect::Terms;
-use form_match::{Bindings, Wildcard};
 use form_term::{Component, Index, Monomial, Piece, laws, terms_in};
 use std::alloc::{AllocError, Global};
 use std::marker::Model;
@@ -90,7 +90,7 @@ impl Standing {
     }
 
     /// What a wildcard stands for, none where it isn't bound.
-    #[tactic(auto, unfolding(form_match::specs::Values::value_of))]
+    #[tactic(auto, unfolding(form_bindings::specs::Values::value_of))]
     fn value_of(&self, wildcard: Wildcard) -> Option<&[Piece]>
         ensures found { option_map (λ v. v.now) result ≡ value_among self.now.bindings wildcard }
         ensures lawful { IfSome (value_among self.now.bindings wildcard) (IsValueOf wildcard) }

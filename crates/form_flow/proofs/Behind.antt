@@ -5,7 +5,7 @@ use Rattle.std.specs.Vec.Iter.{into_iter_items, into_iter_len}
 use Rattle.std.specs.declared.vec.IntoIter.{IntoIter}
 use Rattle.std.proofs.lemmas.List.{append-nil, map-append, nil_from_length, replicate_more}
 use Rattle.form_tree.specs.Tree.{Sum}
-use Rattle.form_match.specs.Values.{Binding}
+use Rattle.form_bindings.specs.Values.{Binding}
 use Rattle.form_expand.specs.declared.row.Part.{Part}
 use Rattle.form_expand.specs.Expanding.{list_of_sum}
 use Rattle.form_expand.specs.Listing.{Listing}

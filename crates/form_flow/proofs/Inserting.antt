@@ -5,7 +5,7 @@ use Rattle.std.proofs.lemmas.List.{map-append, map_more, take_all}
 use Rattle.form_term.specs.declared.monomial.Monomial.{Monomial}
 use Rattle.form_term.specs.Term.{Call, Term, nothing, of_others}
 use Rattle.form_tree.specs.Tree.{Sum}
-use Rattle.form_match.specs.Values.{Binding}
+use Rattle.form_bindings.specs.Values.{Binding}
 use Rattle.form_rewrite.specs.declared.taken.Cut.{Cut}
 use Rattle.form_rewrite.specs.declared.taken.Origin.{Origin}
 use Rattle.form_rewrite.specs.declared.taken.Origin.TheVariants.{Given, TakenBy}

@@ -8,7 +8,7 @@ use Rattle.form_tree.specs.Pattern.{Factors, pieces_of_factors}
 use Rattle.form_term.specs.Term.{Term}
 use Rattle.form_term.specs.declared.monomial.Monomial.{Monomial}
 use Rattle.form_rewrite.specs.declared.taken.Taken.{Taken}
-use Rattle.form_match.specs.Values.{Binding}
+use Rattle.form_bindings.specs.Values.{Binding}
 use Rattle.form_rewrite.specs.Taking.{take_out, taken_so_far}
 use Rattle.form_expand.specs.Left.{row}
 use Rattle.form_expand.specs.Listing.{Listing, single}

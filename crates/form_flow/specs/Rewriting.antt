@@ -10,7 +10,7 @@ use Rattle.form_term.specs.Term.{Term, Call, of_others}
 use Rattle.form_term.specs.Term as terms
 use Rattle.form_tree.specs.Tree as tree
 use Rattle.form_tree.specs.Pattern.{Factors}
-use Rattle.form_match.specs.Values.{Binding}
+use Rattle.form_bindings.specs.Values.{Binding}
 use Rattle.form_rewrite.specs.declared.taken.Cut.{Cut}
 use Rattle.form_rewrite.specs.declared.taken.Origin.{Origin}
 use Rattle.form_rewrite.specs.declared.taken.Origin.TheVariants.{Given, TakenBy}

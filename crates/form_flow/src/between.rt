@@ -12,8 +12,8 @@ ghost use Rattle.form_flow.specs.Rewriting.{any_match, from_cuts, is_by_match, l
 
 use crate::rest::{bound, right_side};
 use crate::words::{with_front, word_of};
+use form_bindings::Bindings;
 use form_expand::{Part, Row, Standing};
-use form_match::Bindings;
 use form_rewrite::{Cut, Origin};
 use form_term::{Monomial, Term};
 use form_tree::Piece;

@@ -16,9 +16,9 @@ ghost use Rattle.form_flow.specs.Rewriting.{Part as AsTrees, and_part as and_par
 
 use crate::between::{Inserted, all_bound, is_any_by_match, places, put_between, row_of};
 use crate::compiled::{CompiledPart, Group};
+use form_bindings::Bindings;
 use form_expand::{Paired, Part, Standing, laws, pair, times_list, whole_list};
 use form_frac::Frac;
-use form_match::Bindings;
 use form_rewrite::{Single, Take, Taken, take_out};
 use form_term::{Monomial, Term};
 use form_tree::Piece;

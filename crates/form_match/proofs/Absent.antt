@@ -18,7 +18,7 @@ use Rattle.form_match.specs.declared.uses.Use.{Use}
 use Rattle.form_match.specs.declared.uses.Use.TheVariants as uses
 use Rattle.form_match.specs.Matching.{Host, Choice, outer, and_asked, asked_vector, fits, symbol_choice, dot_choices, component_choice, delta_choices, starts, taking, is_uncut}
 use Rattle.form_match.specs.States.{Open, factors, arguments, State, start, taking_too, asking_too, with_choice, with_function, with_stretch, moves, first_found, reach}
-use Rattle.form_match.specs.Values.{Binding}
+use Rattle.form_bindings.specs.Values.{Binding}
 use Rattle.form_match.proofs.Attempting.{taking_none}
 use Rattle.form_match.proofs.Plainly.{not_here}
 

@@ -17,7 +17,7 @@ use Rattle.form_tree.specs.declared.pattern.PatternPiece.{PatternPiece}
 use Rattle.form_tree.specs.declared.pattern.PatternPiece.TheVariants as pieces
 use Rattle.form_term.specs.declared.monomial.Monomial.{Monomial}
 use Rattle.form_term.specs.Monomial.{as_monomial}
-use Rattle.form_match.specs.declared.bindings.Wildcard.TheVariants as wildcards
+use Rattle.form_bindings.specs.declared.bindings.Wildcard.TheVariants as wildcards
 use Rattle.form_match.specs.declared.frames.Frame.{Frame}
 use Rattle.form_match.specs.declared.frames.Frame.TheVariants as frames
 use Rattle.form_match.specs.declared.frames.Span.{Span}
@@ -30,12 +30,14 @@ use Rattle.form_match.specs.declared.uses.Use.TheVariants as uses
 use Rattle.form_match.specs.Attempts.{IfOne, IfPlain, IsAttempt, StandBehind, any_asked, begins_sum, index_alone, step_of, vector_alone}
 use Rattle.form_match.specs.Candidates.{candidates, choice_at, trial, function_trial, stretch_trial, only_first, from}
 use Rattle.form_match.specs.Frames.{frame_at, around_at, open_of, host_at, pieces_at, pieces_of, uses_at, calls_at, IsAround, AreOpen}
-use Rattle.form_match.specs.Learning.{learnt, learnt_of, Tells, chosen_of}
+use Rattle.form_bindings.specs.Learning.{Tells}
+use Rattle.form_match.specs.Learning.{learnt, learnt_of, chosen_of}
 use Rattle.form_match.specs.Left.{left_of, is_one}
-use Rattle.form_match.specs.Matching.{Host, Choice, clashes, and_bound, asked_expression, asked_function, asked_index, asked_vector, any_ways, field_asks, is_fixed_argument, is_uncut, inner, is_coefficient_one}
+use Rattle.form_bindings.specs.Learning.{and_bound}
+use Rattle.form_match.specs.Matching.{Host, Choice, clashes, asked_expression, asked_function, asked_index, asked_vector, any_ways, field_asks, is_fixed_argument, is_uncut, inner, is_coefficient_one}
 use Rattle.form_match.specs.Parts.{HasFirst, IsWalked}
 use Rattle.form_match.specs.States.{Open, factors, arguments, calls, State, state, binding_too, taking_too, with_choice, asking_too, with_function, with_stretch, with_call, with_product, behind_arguments, with_field, moves}
-use Rattle.form_match.specs.Values.{Binding, binding}
+use Rattle.form_bindings.specs.Values.{Binding, binding}
 use Rattle.form_match.proofs.Cutting.{field_first, field_none}
 use Rattle.form_match.proofs.Numbered.{candidate_first, candidate_last}
 use Rattle.form_match.proofs.Standing.{Shown, shown, taken_of, nothing_taken, one_taken, factors_on, function_begins, word_begins, again, arguments_on, calls_on, call_begins, product_begins}

@@ -21,13 +21,14 @@ use Rattle.form_match.specs.declared.matching.Match.{Match}
 use Rattle.form_match.specs.declared.uses.Use.{Use}
 use Rattle.form_match.specs.declared.uses.Use.TheVariants as uses
 use Rattle.form_match.specs.Attempts.{Finds, any_asked}
-use Rattle.form_match.specs.Learning.{Tells, chosen_of, learnt_of}
+use Rattle.form_bindings.specs.Learning.{Tells}
+use Rattle.form_match.specs.Learning.{chosen_of, learnt_of}
 use Rattle.form_match.specs.Matching.{Host, Choice, absent_choice, and_asked, asked_function, asked_number, clashes, is_fixed_argument, symbol_choice, taking, whole_choice}
 use Rattle.form_match.specs.Parts.{HasFirst}
 use Rattle.form_match.specs.States.{Open, factors, arguments, State, state, start, binding_too, asking_too, with_choice, with_function, moves, first_found, reach}
 use Rattle.form_match.specs.Straight.{LeadsTo, are_single, ends_straight, is_power, is_single, is_straight, is_straight_call, only_choice, whole_or_absent}
 use Rattle.form_match.specs.Symbols.{power_at}
-use Rattle.form_match.specs.Values.{Binding}
+use Rattle.form_bindings.specs.Values.{Binding}
 use Rattle.form_match.proofs.Attempting.{any_is, asking_is, chosen, no_arguments, not_chosen, some_argument, taking_clash, taking_free}
 use Rattle.form_match.proofs.Plainly.{not_here}
 

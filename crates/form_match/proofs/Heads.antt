@@ -7,9 +7,10 @@ use Rattle.form_term.specs.declared.piece.Piece.{Piece}
 use Rattle.form_term.specs.Term.{Term}
 use Rattle.form_tree.specs.Pattern.{Factors, pieces_of_factors}
 use Rattle.form_match.specs.Learning.{learnt}
-use Rattle.form_match.specs.Matching.{Host, Choice, are_apart, uses_of, asks_of, and_bound, bindings_of, match_of, first_some, first_of, vectors, outer}
+use Rattle.form_bindings.specs.Learning.{and_bound}
+use Rattle.form_match.specs.Matching.{Host, Choice, are_apart, uses_of, asks_of, bindings_of, match_of, first_some, first_of, vectors, outer}
 use Rattle.form_match.specs.States.{factors, state, start, first_found, reach}
-use Rattle.form_match.specs.Values.{Binding}
+use Rattle.form_bindings.specs.Values.{Binding}
 use Rattle.form_match.proofs.Reaching.{of_factors, after_vector, apart_alone}
 
 abbrev folded : Option (List Binding) → List Binding → Option (List Binding)

@@ -28,7 +28,7 @@ use Rattle.form_match.specs.Learning.{learnt}
 use Rattle.form_match.specs.Left.{left_of, is_one}
 use Rattle.form_match.specs.Matching.{Host, Choice, inner, outer, clashes, are_apart, fits, taking, symbol_choice, whole_choice, absent_choice, dot_choices, component_choice, delta_choices, asked_symbol, asked_number, asked_vector, asked_index, asked_function, and_asked, is_uncut, starts, any_ways, is_fixed_argument, is_coefficient_one, field_asks, first_of}
 use Rattle.form_match.specs.States.{Open, factors, arguments, calls, State, state, start, taken_in, first_found, match_at, binding_too, taking_too, asking_too, with_choice, with_function, with_stretch, with_call, with_field, with_product, behind_arguments, moves, reach}
-use Rattle.form_match.specs.Values.{Binding}
+use Rattle.form_bindings.specs.Values.{Binding}
 use Rattle.form_match.proofs.Heads.{first_reached}
 use Rattle.form_match.proofs.Portions.{both_true, both_false, not_true}
 use Rattle.form_match.proofs.Powers.{exact_fits}

@@ -9,7 +9,7 @@ use Rattle.form_term.specs.declared.index.Index.{Index}
 use Rattle.form_term.specs.declared.power.Power.{Power}
 use Rattle.form_term.specs.Term.{Summand, Argument, index, vector, expression, one, of_symbols, AreArguments, IsArgumentOf, IsExpression, IsTerm, largest_exponent, pieces_of_argument}
 use Rattle.form_term.specs.TermLaws.{power_lawful, symbols_lawful}
-use Rattle.form_match.specs.Values.{symbol_value, number_value, index_value, vector_value}
+use Rattle.form_bindings.specs.Values.{symbol_value, number_value, index_value, vector_value}
 
 argument_alone : (a : Argument) → IsArgumentOf IsTerm a → AreArguments (pieces_of_argument a)
 argument_alone a h = record {

@@ -8,9 +8,7 @@ pub mod Firsts
 pub mod Found
 pub mod Heads
 pub mod Held
-pub mod Kept
 pub mod Lawful
-pub mod Lookups
 pub mod Numbered
 pub mod Plainly
 pub mod Plains

@@ -13,7 +13,7 @@ use Rattle.form_match.specs.Asking.{whole_or_absent, dot_at, dot_choice, delta_a
 use Rattle.form_match.specs.Candidates.{candidates, trial, function_trial, stretch_trial, from_candidate}
 use Rattle.form_match.specs.Matching.{Host, Choice, and_asked, asked_vector, fits, is_uncut, symbol_choice, whole_choice, absent_choice, dot_choices, component_choice, taking}
 use Rattle.form_match.specs.States.{Open, State, factors, with_choice, with_function, with_stretch, moves}
-use Rattle.form_match.specs.Values.{Binding}
+use Rattle.form_bindings.specs.Values.{Binding}
 
 -- ---- one after another
 

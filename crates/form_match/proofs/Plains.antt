@@ -13,7 +13,7 @@ use Rattle.form_match.specs.declared.matching.Match.{Match}
 use Rattle.form_match.specs.declared.uses.Use.{Use}
 use Rattle.form_match.specs.Matching.{Choice, Host, outer, clashes, are_apart, uses_of, asks_of, bindings_of, match_of, first_some, first_of, vectors, choices}
 use Rattle.form_match.specs.Symbols.{power_of, power_in, and_use, uses_from, is_plain, and_each, each_use}
-use Rattle.form_match.specs.Values.{Binding}
+use Rattle.form_bindings.specs.Values.{Binding}
 use Rattle.form_match.proofs.Plainly.{plain, one_choice}
 use Rattle.form_match.proofs.Reaching.{apart_from, apart_alone}
 

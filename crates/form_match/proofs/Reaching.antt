@@ -13,9 +13,10 @@ use Rattle.form_match.specs.declared.uses.Use.{Use}
 use Rattle.form_match.specs.declared.uses.Use.TheVariants as uses
 use Rattle.form_match.specs.Learning.{learnt}
 use Rattle.form_match.specs.Left.{left_of, is_one}
-use Rattle.form_match.specs.Matching.{Host, Choice, clashes, are_apart, uses_of, asks_of, takes_whole, joined, behind, call_ways, any_ways, product_ways, field_asks, is_fixed_argument, is_coefficient_one, inner, starts, and_bound, asked_function, vectors, choices, ways, word_ways}
+use Rattle.form_bindings.specs.Learning.{and_bound}
+use Rattle.form_match.specs.Matching.{Host, Choice, clashes, are_apart, uses_of, asks_of, takes_whole, joined, behind, call_ways, any_ways, product_ways, field_asks, is_fixed_argument, is_coefficient_one, inner, starts, asked_function, vectors, choices, ways, word_ways}
 use Rattle.form_match.specs.States.{Open, factors, arguments, calls, State, state, binding_too, taking_too, with_choice, asking_too, with_function, with_stretch, with_call, with_field, behind_arguments, moves, reach}
-use Rattle.form_match.specs.Values.{Binding}
+use Rattle.form_bindings.specs.Values.{Binding}
 
 -- ---- lists
 

@@ -18,7 +18,7 @@ use Rattle.form_match.specs.Frames.{AreOpen, IsAround, around_at, bound_at, boun
 use Rattle.form_match.specs.Matching.{Host}
 use Rattle.form_match.specs.Running.{AreBehind, GoesOn, IsLater, IsRunning, ahead, way}
 use Rattle.form_match.specs.States.{Open, factors, State, state, start, taken_in, first_found, reach}
-use Rattle.form_match.specs.Values.{Binding}
+use Rattle.form_bindings.specs.Values.{Binding}
 use Rattle.form_match.proofs.Pushed.{step_last}
 use Rattle.form_match.proofs.Reaching.{reach_first, reach_none}
 use Rattle.form_match.proofs.Told.{take_take}

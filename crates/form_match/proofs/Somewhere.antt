@@ -14,11 +14,12 @@ use Rattle.form_match.specs.declared.frames.Step.{Step}
 use Rattle.form_match.specs.declared.frames.Attempt.TheVariants as attempts
 use Rattle.form_match.specs.Attempts.{IsAttempt, IsSomewhere, StandBehind, any_asked}
 use Rattle.form_match.specs.Frames.{around_at, frame_at, pieces_at, uses_at}
-use Rattle.form_match.specs.Learning.{Tells, learnt_of}
+use Rattle.form_bindings.specs.Learning.{Tells}
+use Rattle.form_match.specs.Learning.{learnt_of}
 use Rattle.form_match.specs.Matching.{Host, are_apart}
 use Rattle.form_match.specs.Parts.{HasFirst}
 use Rattle.form_match.specs.States.{Open}
-use Rattle.form_match.specs.Values.{Binding}
+use Rattle.form_bindings.specs.Values.{Binding}
 use Rattle.form_match.proofs.Attempting.{any_fails, any_made, first_there, lawful_here, lawful_around, moved}
 
 pub emptied : {X Z : Type 0} (v : Vec X Z) → vec_len v ≡ 0 → v.items ≡ []

@@ -3,9 +3,10 @@ use Rattle.std.proofs.Common.{◌≡◌, ℕ, zero, suc, ◌≤◌, ◌||◌, Bo
 use Rattle.std.specs.Prelude.{flat_map}
 use Rattle.std.specs.List.{list_any}
 use Rattle.std.proofs.lemmas.List.Concat.{flat_map_single}
-use Rattle.form_match.specs.Learning.{Tells, learnt}
-use Rattle.form_match.specs.Matching.{and_bound}
-use Rattle.form_match.specs.Values.{Binding}
+use Rattle.form_bindings.specs.Learning.{Tells}
+use Rattle.form_match.specs.Learning.{learnt}
+use Rattle.form_bindings.specs.Learning.{and_bound}
+use Rattle.form_bindings.specs.Values.{Binding}
 
 -- one value
 pub one_told : (b : Bool) (bs new : List Binding) (x : Binding) → Tells b (and_bound bs x) new → Tells b (learnt bs (x ∷ [])) new

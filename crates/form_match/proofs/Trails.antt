@@ -9,7 +9,7 @@ use Rattle.form_tree.specs.declared.pattern.PatternPiece.{PatternPiece}
 use Rattle.form_tree.specs.declared.pattern.PatternPiece.TheVariants as pieces
 use Rattle.form_match.specs.Candidates.{candidates, trial, function_trial, stretch_trial, from, is_behind}
 use Rattle.form_match.specs.States.{Open, factors, arguments, calls, with_field, moves}
-use Rattle.form_match.specs.Values.{Binding}
+use Rattle.form_bindings.specs.Values.{Binding}
 use Rattle.form_match.proofs.Numbered.{candidates_all, symbol_moves, whole_moves, dot_moves, component_moves, delta_moves, function_moves, stretch_moves}
 
 all_behind : (xs : List terms.Argument) (ns : List ℕ) → filter (is_behind xs 0) ns ≡ ns

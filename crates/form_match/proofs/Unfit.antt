@@ -10,7 +10,7 @@ use Rattle.form_tree.specs.declared.pattern.PatternPiece.TheVariants as pieces
 use Rattle.form_match.specs.Attempts.{IfOne, IfPlain}
 use Rattle.form_match.specs.Candidates.{from}
 use Rattle.form_match.specs.States.{Open, arguments, calls}
-use Rattle.form_match.specs.Values.{Binding}
+use Rattle.form_bindings.specs.Values.{Binding}
 
 pub if_plain : (p : PatternPiece) (claim : Type 0) → ((n : Name) → p ≡ pieces.Function n → ⊥) → ((n : ℕ) → p ≡ pieces.Word n → ⊥) → (p ≡ pieces.EndOfProduct → ⊥) → IfPlain p claim → claim
 if_plain (pieces.Symbol n k) claim no_function no_word no_end holds = holds

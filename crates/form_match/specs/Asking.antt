@@ -9,12 +9,12 @@ use Rattle.form_term.specs.declared.index.Delta.{Delta}
 use Rattle.form_term.specs.declared.piece.Piece.{Piece}
 use Rattle.form_tree.specs.declared.pattern.Name.{Name}
 use Rattle.form_tree.specs.declared.pattern.IndexName.{IndexName}
-use Rattle.form_match.specs.declared.bindings.Wildcard.TheVariants as wildcards
+use Rattle.form_bindings.specs.declared.bindings.Wildcard.TheVariants as wildcards
 use Rattle.form_match.specs.declared.uses.Use.TheVariants as uses
 use Rattle.form_match.specs.declared.values.Kind.{Kind}
 use Rattle.form_match.specs.declared.values.Kind.TheVariants as kinds
 use Rattle.form_match.specs.Matching.{Host, Choice, and_asked, taking, fits, values_in, symbol_choice, whole_choice, absent_choice, component_choice, asked_vector, asked_index}
-use Rattle.form_match.specs.Values.{Binding, is_same, symbol_value, number_value, index_value, vector_value, function_value}
+use Rattle.form_bindings.specs.Values.{Binding, is_same, symbol_value, number_value, index_value, vector_value, function_value}
 
 -- the value of a name among the elements of a set, and the values of a number
 abbrev pub name_value : Kind → ℕ → List Piece

@@ -21,7 +21,7 @@ use Rattle.form_match.specs.Candidates.{from}
 use Rattle.form_match.specs.Frames.{AreOpen, bound_at, uses_at}
 use Rattle.form_match.specs.Matching.{Host, are_apart, asked_expression, asked_index, asked_vector}
 use Rattle.form_match.specs.States.{Open, state}
-use Rattle.form_match.specs.Values.{Binding}
+use Rattle.form_bindings.specs.Values.{Binding}
 
 -- what arguments without wildcards are, by what is kept of them
 abbrev pub table_of : List (Option Call) → List (Option (List Piece))

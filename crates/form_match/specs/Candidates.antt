@@ -11,7 +11,7 @@ use Rattle.form_match.specs.declared.uses.Use.{Use}
 use Rattle.form_match.specs.Asking.{symbol_at, whole_at, dot_at, component_at, delta_at}
 use Rattle.form_match.specs.Matching.{Host, Choice, is_uncut}
 use Rattle.form_match.specs.States.{Open, factors, arguments, State, with_choice, with_function, with_stretch, with_field, moves, reach}
-use Rattle.form_match.specs.Values.{Binding}
+use Rattle.form_bindings.specs.Values.{Binding}
 
 -- how many candidates a factor without arguments has in a term, and the choice that each is
 abbrev pub candidates : Host → PatternPiece → ℕ

@@ -1,8 +1,9 @@
 -- What is learnt of wildcards, one value after another.
 use Rattle.std.specs.Prelude.{◌≡◌, Bool, true, false, List, [], ◌∷◌, Option, Some, None, option_map, option_and_then}
 use Rattle.form_match.specs.declared.uses.Use.{Use}
-use Rattle.form_match.specs.Matching.{Choice, and_bound}
-use Rattle.form_match.specs.Values.{Binding}
+use Rattle.form_bindings.specs.Learning.{and_bound}
+use Rattle.form_match.specs.Matching.{Choice}
+use Rattle.form_bindings.specs.Values.{Binding}
 
 -- bindings once these values are asked too, none where two values are asked of one wildcard
 abbrev pub learnt : List Binding → List Binding → Option (List Binding)
@@ -12,11 +13,6 @@ learnt bs (b ∷ asks) = option_and_then (λ made. learnt made asks) (and_bound 
 abbrev pub learnt_of : List Binding → Option (List Binding) → Option (List Binding)
 learnt_of bs None = None
 learnt_of bs (Some asks) = learnt bs asks
-
--- an answer whether something could be learnt, and what the bindings are then
-abbrev pub Tells : Bool → Option (List Binding) → List Binding → Type 0
-Tells true made new = made ≡ Some new
-Tells false made new = made ≡ None
 
 -- what a choice takes, and the bindings then
 abbrev pub chosen_of : List Binding → Option Choice → Option (Use × List Binding)

@@ -1,7 +1,6 @@
 pub mod Asking
 pub mod Attempts
 pub mod Candidates
-pub mod Entries
 pub mod First
 pub mod Fits
 pub mod Lacking
@@ -16,5 +15,4 @@ pub mod States
 pub mod Straight
 pub mod Symbols
 pub mod Taken
-pub mod Values
 pub mod Whole

@@ -23,11 +23,12 @@ use Rattle.form_tree.specs.declared.pattern.IndexName.TheVariants as an_index
 use Rattle.form_tree.specs.declared.pattern.Sort.{Sort}
 use Rattle.form_tree.specs.declared.pattern.Sort.TheVariants as sorts
 use Rattle.form_tree.specs.Pattern.{Factors, none, more, Factor, symbol, whole, dot, component, delta, function, word, Calls, end, call, count, Arguments, empty, further, fixed, any, field, product}
-use Rattle.form_match.specs.declared.bindings.Wildcard.TheVariants as wildcards
+use Rattle.form_bindings.specs.declared.bindings.Wildcard.TheVariants as wildcards
 use Rattle.form_match.specs.declared.matching.Match.{Match}
 use Rattle.form_match.specs.declared.uses.Use.{Use}
 use Rattle.form_match.specs.declared.uses.Use.TheVariants as uses
-use Rattle.form_match.specs.Values.{Binding, value_of, is_same, symbol_value, number_value, index_value, vector_value, function_value}
+use Rattle.form_bindings.specs.Learning.{and_bound}
+use Rattle.form_bindings.specs.Values.{Binding, is_same, symbol_value, number_value, index_value, vector_value, function_value}
 use Rattle.form_match.specs.Left.{left_of, is_one}
 
 -- The term that a pattern is tried on, or an inner one: the places in its word that no stretch may cross, whether the power
@@ -252,14 +253,6 @@ unfoldable mutual
   ways table (further (product fs) args) (x ∷ xs) = joined (product_ways (λ t. vectors table fs (inner t)) x) (ways table args xs)
 
 -- ---- consistency
-
--- one binding for each wildcard: none where two values are asked of one
-abbrev pub and_bound_at : Option (List Piece) → List Binding → Binding → Option (List Binding)
-and_bound_at None bs b = Some (bs ++ b ∷ [])
-and_bound_at (Some value) bs b = if is_same value b.value then Some bs else None
-
-abbrev pub and_bound : List Binding → Binding → Option (List Binding)
-and_bound bs b = and_bound_at (value_of bs b.wildcard) bs b
 
 unfoldable pub bindings_of : List Binding → Option (List Binding)
 bindings_of asks = fold (λ bs b. option_and_then (λ made. and_bound made b) bs) (Some []) asks

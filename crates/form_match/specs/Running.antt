@@ -8,7 +8,7 @@ use Rattle.form_match.specs.Candidates.{from, pending}
 use Rattle.form_match.specs.Frames.{bound_at}
 use Rattle.form_match.specs.Matching.{Host}
 use Rattle.form_match.specs.States.{Open, State, state, start, first_found, reach}
-use Rattle.form_match.specs.Values.{Binding}
+use Rattle.form_bindings.specs.Values.{Binding}
 
 -- what a state leads to from a candidate of its next piece on
 abbrev pub ahead : List (Option (List Piece)) → List PatternPiece → State → ℕ → List State

@@ -15,7 +15,7 @@ use Rattle.form_match.specs.declared.uses.Use.TheVariants as uses
 use Rattle.form_match.specs.Learning.{learnt}
 use Rattle.form_match.specs.Left.{left_of, is_one}
 use Rattle.form_match.specs.Matching.{Host, Choice, clashes, symbol_choice, whole_choice, absent_choice, dot_choices, component_choice, delta_choices, asked_function, starts, inner, any_ways, is_fixed_argument, field_asks, is_coefficient_one}
-use Rattle.form_match.specs.Values.{Binding}
+use Rattle.form_bindings.specs.Values.{Binding}
 
 -- What is open: the factors of a term, of which something is taken already; arguments of a function that are left; a word
 -- from one of its functions on.

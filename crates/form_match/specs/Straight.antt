@@ -11,7 +11,7 @@ use Rattle.form_match.specs.declared.uses.Use.{Use}
 use Rattle.form_match.specs.Matching.{Host, Choice, symbol_choice, whole_choice, absent_choice}
 use Rattle.form_match.specs.States.{Open, State, state, factors, first_found, reach}
 use Rattle.form_match.specs.Symbols.{power_at}
-use Rattle.form_match.specs.Values.{Binding}
+use Rattle.form_bindings.specs.Values.{Binding}
 
 -- a piece that takes one argument, in one way at most
 abbrev pub is_single : PatternPiece → Bool

@@ -10,19 +10,19 @@ ghost use Rattle.form_match.specs.declared.frames.Span.{Span};
 ghost use Rattle.form_match.specs.declared.frames.Attempt.TheVariants as attempts;
 ghost use Rattle.form_match.specs.Attempts.{IfOne, IsAttempt, IsSomewhere, IsTried, StandBehind, any_asked, begins_sum, index_alone, table_of, vector_alone};
 ghost use Rattle.form_match.specs.Frames.{around_at as around_in, frame_at as frame_in, ground_of, pieces_at as pieces_in};
-ghost use Rattle.form_match.specs.Learning.{Tells, learnt_of};
+ghost use Rattle.form_bindings.specs.Learning.{Tells};
+ghost use Rattle.form_match.specs.Learning.{learnt_of};
 ghost use Rattle.form_match.specs.Matching.{Host, is_coefficient_one, is_fixed_argument as is_fixed_argument_of};
 ghost use Rattle.form_match.specs.Parts.{IsFirstOf, IsOnly, IsWalked};
 ghost use Rattle.form_match.specs.States.{Open};
-ghost use Rattle.form_match.specs.Values.{Binding};
+ghost use Rattle.form_bindings.specs.Values.{Binding};
 
 use crate::asking::{ask_declared, ask_expression, ask_vector};
 use crate::frames::{
     Attempt, Frame, Ground, Move, Span, Step, alone, around_at, frame_at, pieces_at, without,
 };
-use crate::values::is_same;
-use crate::{Bindings, Wildcard};
 use form_base::Id;
+use form_bindings::{Bindings, Wildcard, is_same};
 use form_frac::Frac;
 use form_term::laws::{lawful_pieces, reading_of_arguments};
 use form_term::{Call, Index, Monomial, Piece, part_len, terms_in};

@@ -2,16 +2,17 @@
 ghost use Rattle.std.specs.Prelude.{◌≡◌, IfOk, length, pos, take};
 ghost use Rattle.form_term.specs.Term.{AreArguments};
 ghost use Rattle.form_match.specs.Asking.{asked_wild};
-ghost use Rattle.form_match.specs.Learning.{Tells, learnt_of};
+ghost use Rattle.form_bindings.specs.Learning.{Tells};
+ghost use Rattle.form_match.specs.Learning.{learnt_of};
 ghost use Rattle.form_match.specs.Matching.{asked_expression, asked_function, asked_index, asked_number, asked_symbol, asked_vector, is_declared as is_declared_as, is_fixed as is_fixed_as};
-ghost use Rattle.form_match.specs.Values.{IsValueOf};
-ghost use Rattle.form_match.specs.declared.bindings.Wildcard.TheVariants as wildcards;
+ghost use Rattle.form_bindings.specs.Values.{IsValueOf};
+ghost use Rattle.form_bindings.specs.declared.bindings.Wildcard.TheVariants as wildcards;
 ghost use Rattle.form_tree.specs.declared.pattern.IndexName.TheVariants as index_names;
 
 use crate::sets::{is_allowed, is_name};
 use crate::values::{Kind, exponent_pieces, symbol_pieces, zero_pieces};
-use crate::{Bindings, Wildcard};
 use form_base::Id;
+use form_bindings::{Bindings, Wildcard};
 use form_names::Elements;
 use form_term::{Index, Piece, Power};
 use form_tree::{IndexName, Name};

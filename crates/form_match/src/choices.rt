@@ -7,23 +7,14 @@ ghost use Rattle.form_match.specs.Matching.{absent_choice, and_asked, asked_vect
 ghost use Rattle.form_match.specs.declared.uses.Use.TheVariants as uses;
 ghost use Rattle.form_tree.specs.declared.pattern.Name.TheVariants.{Itself};
 
+use crate::Use;
 use crate::asking::{ask_exponent, ask_index, ask_symbol, ask_vector, ask_zero};
 use crate::host::Host;
-use crate::{Bindings, Use};
 use form_base::Id;
+use form_bindings::{Bindings, short};
 use form_term::{Component, Delta, DotPower, Power};
 use form_tree::{IndexName, Name};
 use std::alloc::AllocError;
-
-/// A place in a term; a term has fewer than 2^32 things.
-pub fn short(place: usize) -> Result<u32, AllocError>
-    ensures { IfOk result (λ n. n ≡ place) }
-{
-    match u32::try_from(place) {
-        Ok(place) => Ok(place),
-        Err(_) => Err(AllocError),
-    }
-}
 
 /// Whether a power that isn't 0 can be taken of an exponent: it leaves a rest of the same sign or none, and none where it
 /// is exact.

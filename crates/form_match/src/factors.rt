@@ -10,18 +10,19 @@ ghost use Rattle.form_match.specs.Frames.{around_at as around_in, frame_at as fr
 ghost use Rattle.form_match.specs.Learning.{Chooses, chosen_of};
 ghost use Rattle.form_match.specs.Matching.{Host};
 ghost use Rattle.form_match.specs.States.{Open};
-ghost use Rattle.form_match.specs.Values.{Binding};
+ghost use Rattle.form_bindings.specs.Values.{Binding};
 
+use crate::Use;
 use crate::arguments::{first_len, lawful_arguments};
 use crate::asking::ask_function;
-use crate::choices::{component, delta, dot, is_uncut, short, symbol, whole};
+use crate::choices::{component, delta, dot, is_uncut, symbol, whole};
 use crate::frames::{
     Attempt, Frame, Ground, Move, Span, Step, Taken, alone, around_at, frame_at, host_at, is_free,
     pieces_at, uses_of, without,
 };
 use crate::host::Host;
 use crate::whole::is_taken_whole;
-use crate::{Bindings, Use};
+use form_bindings::{Bindings, short};
 use form_term::Call;
 use form_tree::{Name, PatternPiece};
 use std::alloc::{AllocError, Global};

@@ -3,7 +3,6 @@
 
 mod arguments;
 mod asking;
-mod bindings;
 mod choices;
 mod factors;
 mod frames;
@@ -22,7 +21,6 @@ mod uses;
 mod values;
 mod whole;
 
-pub use bindings::{Bindings, Wildcard};
 pub use left::left_of;
 pub use matching::{Match, first_match, first_of};
 pub use pattern::Pattern;

@@ -7,10 +7,11 @@ ghost use Rattle.form_match.specs.Frames.{bound_at as bound_in, ground_of, uses_
 ghost use Rattle.form_match.specs.Running.{GoesOn, IsLater, IsRunning, way};
 ghost use Rattle.form_match.specs.States.{Open, first_found, reach, start};
 
+use crate::Match;
 use crate::arguments::attempt_argument;
 use crate::factors::{attempt_factor, attempt_in_word};
 use crate::frames::{Attempt, Frame, Ground, Move, Step, bound_at, frame_at, uses_of};
-use crate::{Bindings, Match};
+use form_bindings::Bindings;
 use form_tree::PatternPiece;
 use std::alloc::{AllocError, Global};
 

@@ -2,10 +2,11 @@
 ghost use Rattle.std.specs.Prelude.{◌≡◌, map, flat_map};
 ghost use Rattle.std.specs.List.{list_all, list_any};
 ghost use Rattle.form_match.specs.Asking.{is_in, name_value, number_values};
-ghost use Rattle.form_match.specs.Values.{is_same as is_same_value, number_value};
+ghost use Rattle.form_bindings.specs.Values.{is_same as is_same_value, number_value};
 
-use crate::values::{Kind, is_number, is_same, symbol_pieces};
+use crate::values::{Kind, is_number, symbol_pieces};
 use form_base::Id;
+use form_bindings::is_same;
 use form_names::{Elements, Numbers};
 use form_term::{Index, Piece};
 

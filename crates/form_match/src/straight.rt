@@ -15,11 +15,12 @@ ghost use Rattle.form_match.specs.Straight.{FindsOne, IsBehind, LeadsTo, are_sin
 
 use crate::arguments::{ask_argument, first_argument, is_fixed_argument, lawful_arguments};
 use crate::asking::ask_function;
-use crate::choices::{short, take_absent, take_symbol, take_whole};
+use crate::choices::{take_absent, take_symbol, take_whole};
 use crate::frames::Ground;
 use crate::host::Host;
 use crate::symbols::{clashes, power_at};
-use crate::{Bindings, Use, Uses};
+use crate::{Use, Uses};
+use form_bindings::{Bindings, short};
 use form_term::{Call, Piece, Power};
 use form_tree::{Name, PatternPiece};
 use std::alloc::AllocError;

@@ -1,10 +1,11 @@
 //! What is asked of wildcards: values as the pieces of arguments, and the sets that have to have them.
 ghost use Rattle.std.specs.Prelude.{◌≡◌, ◌<◌, pos, nat_abs};
-ghost use Rattle.form_match.specs.Values.{is_same as is_same_value, number_value, symbol_value};
+ghost use Rattle.form_bindings.specs.Values.{is_same as is_same_value, number_value, symbol_value};
 
 use form_base::Id;
+use form_bindings::is_same;
 use form_term::{Coefficient, Piece, Power};
-use std::cmp::{Ordering, Reverse};
+use std::cmp::Reverse;
 
 /// What a wildcard stands for, by which the elements of its sets are read.
 #[derive(Clone, Copy)]
@@ -13,13 +14,6 @@ pub enum Kind {
     Index,
     Vector,
     Function,
-}
-
-/// Whether two values are one.
-pub fn is_same(value: &[Piece], other: &[Piece]) -> bool
-    ensures { result ≡ is_same_value value.now other.now }
-{
-    value.cmp(&other) == Ordering::Equal
 }
 
 /// The expression that is a symbol alone.

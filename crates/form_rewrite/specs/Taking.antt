@@ -10,7 +10,7 @@ use Rattle.form_tree.specs.declared.pattern.PatternPiece.{PatternPiece}
 use Rattle.form_tree.specs.Pattern.{Factors, pieces_of_factors}
 use Rattle.form_match.specs.declared.uses.Use.{Use}
 use Rattle.form_match.specs.declared.uses.Use.TheVariants as uses
-use Rattle.form_match.specs.Values.{Binding}
+use Rattle.form_bindings.specs.Values.{Binding}
 use Rattle.form_match.specs.Left.{left_of}
 use Rattle.form_match.specs.Matching.{first_of}
 use Rattle.form_match.specs.Ready.{is_plain_piece, is_whole_piece}

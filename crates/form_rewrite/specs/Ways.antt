@@ -5,7 +5,7 @@ use Rattle.form_base.specs.declared.taking.Taking.TheVariants.{Once, Only, Multi
 use Rattle.form_term.specs.Term.{Term}
 use Rattle.form_term.specs.declared.piece.Piece.{Piece}
 use Rattle.form_tree.specs.Pattern.{Factors}
-use Rattle.form_match.specs.Values.{Binding}
+use Rattle.form_bindings.specs.Values.{Binding}
 use Rattle.form_match.specs.declared.matching.Match.{Match}
 use Rattle.form_match.specs.declared.uses.Use.{Use}
 use Rattle.form_match.specs.declared.uses.Use.TheVariants as uses

@@ -14,7 +14,8 @@ use crate::often::{fits_times, so_often};
 use crate::weight::most_matches;
 use crate::{Cut, Cuts, Matches, Origin, Single, Take, Taken};
 use form_base::Taking;
-use form_match::{Bindings, Match, Pattern, Use, first_of, left_of};
+use form_bindings::Bindings;
+use form_match::{Match, Pattern, Use, first_of, left_of};
 use form_term::Term;
 use std::alloc::{AllocError, Global};
 

@@ -2,7 +2,7 @@ ghost use Rattle.std.specs.Prelude.{◌≡◌, ◌∷◌, ◌++◌, [], IfOk, On
 ghost use Rattle.form_rewrite.specs.Takes.{taken_in};
 ghost use Rattle.form_rewrite.specs.Taking.{taken_so_far};
 
-use form_match::Bindings;
+use form_bindings::Bindings;
 use form_term::Term;
 use std::alloc::{AllocError, Global};
 use std::marker::Model;
@@ -67,7 +67,7 @@ pub struct Matches {
 
 impl Model for Matches {
     ghost use Rattle.std.specs.Prelude.{List};
-    ghost use Rattle.form_match.specs.Values.{Binding};
+    ghost use Rattle.form_bindings.specs.Values.{Binding};
 
     ghost Value = { List (List Binding) };
 

@@ -1,10 +1,11 @@
 //! Statements on one term.
 
 use form_base::Id;
+use form_bindings::{Bindings, Wildcard};
 use form_check::{Checked, Rewriting};
 use form_flow::CompiledModule;
 use form_frac::Frac;
-use form_match::{Bindings, Wildcard, first_match, first_of};
+use form_match::{first_match, first_of};
 use form_rewrite::{Taken, take_out};
 use form_term::{Monomial, Term};
 use form_tree::{Link, Name, Natural, Pattern, PatternPiece, Piece, Sets, Sort, Tree};

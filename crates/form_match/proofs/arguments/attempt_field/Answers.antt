@@ -2,15 +2,15 @@ use Rattle.std.proofs.Common.{rules, ◌≡◌, ◌+◌, ◌<◌, true, false, L
 use Rattle.form_term.specs.declared.piece.Piece.{Piece}
 use Rattle.form_term.specs.Term.{AreArguments, pieces_of_arguments}
 use Rattle.form_term.specs.Arguments.{arguments_of}
-use Rattle.form_match.specs.declared.bindings.Wildcard.TheVariants as wildcards
+use Rattle.form_bindings.specs.declared.bindings.Wildcard.TheVariants as wildcards
 use Rattle.form_match.specs.declared.frames.Frame.{Frame}
 use Rattle.form_match.specs.declared.frames.Attempt.TheVariants as attempts
 use Rattle.form_match.specs.Attempts.{IsAttempt}
 use Rattle.form_match.specs.Frames.{pieces_at}
-use Rattle.form_match.specs.Learning.{Tells}
-use Rattle.form_match.specs.Matching.{and_bound}
+use Rattle.form_bindings.specs.Learning.{Tells}
+use Rattle.form_bindings.specs.Learning.{and_bound}
 use Rattle.form_match.specs.Parts.{IsWalked}
-use Rattle.form_match.specs.Values.{binding}
+use Rattle.form_bindings.specs.Values.{binding}
 use Rattle.form_match.proofs.Attempting.{moved, field_fails, field_made, field_spent}
 use Rattle.form_tree.specs.declared.pattern.PatternPiece.TheVariants as pieces
 use Rattle.form_match.proofs.arguments.attempt_field.Goals as goal

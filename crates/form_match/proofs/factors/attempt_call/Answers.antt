@@ -4,7 +4,8 @@ use Rattle.form_tree.specs.declared.pattern.PatternPiece.TheVariants as pieces
 use Rattle.form_match.specs.declared.frames.Attempt.{Attempt}
 use Rattle.form_match.specs.Attempts.{IsAttempt}
 use Rattle.form_match.specs.Frames.{ground_of, host_at}
-use Rattle.form_match.specs.Learning.{Tells, learnt_of}
+use Rattle.form_bindings.specs.Learning.{Tells}
+use Rattle.form_match.specs.Learning.{learnt_of}
 use Rattle.form_match.specs.Matching.{Host, asked_function}
 use Rattle.form_match.proofs.Attempting.{no_call, call_fails, call_made}
 use Rattle.form_match.proofs.factors.attempt_call.Goals as goal

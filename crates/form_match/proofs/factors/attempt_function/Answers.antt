@@ -3,7 +3,8 @@ use Rattle.std.specs.Prelude.{slice_get}
 use Rattle.std.specs.List.{list_any}
 use Rattle.form_match.specs.declared.uses.Use.TheVariants as uses
 use Rattle.form_match.specs.Frames.{uses_at}
-use Rattle.form_match.specs.Learning.{Tells, learnt_of}
+use Rattle.form_bindings.specs.Learning.{Tells}
+use Rattle.form_match.specs.Learning.{learnt_of}
 use Rattle.form_match.specs.Matching.{Host, asked_function, clashes}
 use Rattle.form_match.proofs.Attempting.{not_false, function_clashes, function_fails, function_made}
 use Rattle.form_match.proofs.Portions.{not_true}

@@ -1,6 +1,6 @@
 use Rattle.std.proofs.Common.{List, Some, None, refl, sym, ap, subst, ◌∙◌}
 use Rattle.form_term.specs.Term.{RiseFrom}
-use Rattle.form_match.specs.Values.{Binding}
+use Rattle.form_bindings.specs.Values.{Binding}
 use Rattle.form_match.proofs.Found.{powers_first, powers_fitting}
 use Rattle.form_match.proofs.matching.first_of_symbols.Goals as goal
 

@@ -1,6 +1,6 @@
 use Rattle.std.proofs.Common.{◌∙◌}
 use Rattle.form_match.specs.Asking.{name_value}
-use Rattle.form_match.specs.Values.{is_same}
+use Rattle.form_bindings.specs.Values.{is_same}
 use Rattle.form_match.proofs.Told.{any_map}
 use Rattle.form_match.proofs.sets.has_name.Goals as goal
 

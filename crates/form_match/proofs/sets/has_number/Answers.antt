@@ -3,7 +3,7 @@ use Rattle.std.specs.Prelude.{flat_map}
 use Rattle.std.specs.List.{list_any}
 use Rattle.form_match.specs.declared.values.Kind.{Kind}
 use Rattle.form_match.specs.Asking.{number_values}
-use Rattle.form_match.specs.Values.{is_same, number_value}
+use Rattle.form_bindings.specs.Values.{is_same, number_value}
 use Rattle.form_match.proofs.Told.{any_nothing, any_single}
 use Rattle.form_match.proofs.sets.has_number.Goals as goal
 

@@ -2,7 +2,8 @@ use Rattle.std.proofs.Common.{◌∷◌, Bool, sym, subst}
 use Rattle.std.proofs.lemmas.Result.{IfOk-weaker}
 use Rattle.form_tree.specs.declared.pattern.PatternPiece.{PatternPiece}
 use Rattle.form_match.specs.Attempts.{any_asked, table_of}
-use Rattle.form_match.specs.Learning.{Tells, learnt_of}
+use Rattle.form_bindings.specs.Learning.{Tells}
+use Rattle.form_match.specs.Learning.{learnt_of}
 use Rattle.form_match.specs.States.{arguments, moves}
 use Rattle.form_match.specs.Straight.{LeadsTo}
 use Rattle.form_match.proofs.Direct.{any_leads, fixed_leads, not_single}

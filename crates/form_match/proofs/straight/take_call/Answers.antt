@@ -2,7 +2,8 @@ use Rattle.std.proofs.Common.{[], ◌∷◌, true, false, sym, subst}
 use Rattle.form_term.specs.Arguments.{arguments_of}
 use Rattle.form_term.specs.Term.{AreArguments}
 use Rattle.form_match.specs.Attempts.{table_of}
-use Rattle.form_match.specs.Learning.{Tells, learnt_of}
+use Rattle.form_bindings.specs.Learning.{Tells}
+use Rattle.form_match.specs.Learning.{learnt_of}
 use Rattle.form_match.specs.Matching.{asked_function}
 use Rattle.form_match.specs.States.{factors, arguments, reach}
 use Rattle.form_match.proofs.Direct.{kept_twice, name_fails, name_goes_on, told_if}

@@ -1,6 +1,6 @@
 use Rattle.std.proofs.Common.{◌≡◌, ◌<◌, List, [], ◌∷◌, ◌++◌, map, ap, ◌∙◌, arith}
 use Rattle.form_match.specs.Left.{left_of}
-use Rattle.form_match.specs.Values.{Binding}
+use Rattle.form_bindings.specs.Values.{Binding}
 use Rattle.form_rewrite.specs.Taking.{fits_times, so_often}
 use Rattle.form_rewrite.proofs.Fitting.{often_fits}
 use Rattle.form_rewrite.proofs.Ways.{many_times}

@@ -9,8 +9,8 @@ use Rattle.form_term.specs.declared.piece.Piece.{Piece}
 use Rattle.form_term.specs.declared.piece.Piece.TheVariants as pieces
 use Rattle.form_term.specs.Pieces.{piece_order}
 use Rattle.form_term.specs.Term.{AreArguments, one, of_symbols, index, vector, expression, pieces_of_argument}
-use Rattle.form_match.specs.declared.bindings.Wildcard.{Wildcard}
-use Rattle.form_match.specs.declared.bindings.Wildcard.TheVariants.{Name, Field}
+use Rattle.form_bindings.specs.declared.bindings.Wildcard.{Wildcard}
+use Rattle.form_bindings.specs.declared.bindings.Wildcard.TheVariants.{Name, Field}
 
 -- the expression that is a symbol alone, and that of a whole number, which is empty for 0
 abbrev pub symbol_value : ℕ → List Piece

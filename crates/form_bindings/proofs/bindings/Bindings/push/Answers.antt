@@ -2,11 +2,11 @@ use Rattle.std.proofs.Common.{◌≡◌, ◌∷◌, ◌++◌, [], List, map, len
 use Rattle.std.specs.Prelude.{OnErr, OnOk}
 use Rattle.std.proofs.lemmas.List.Elements.{All-nil, All-cons, All-append}
 use Rattle.form_term.specs.declared.piece.Piece.{Piece}
-use Rattle.form_match.specs.declared.bindings.Entry.{Entry}
-use Rattle.form_match.specs.Entries.{IsEntry, binding_in}
-use Rattle.form_match.specs.Values.{Binding}
-use Rattle.form_match.proofs.Kept.{bindings_more, entries_more, entry_last, binding_last, map_more}
-use Rattle.form_match.proofs.bindings.Bindings.push.Goals as goal
+use Rattle.form_bindings.specs.declared.bindings.Entry.{Entry}
+use Rattle.form_bindings.specs.Entries.{IsEntry, binding_in}
+use Rattle.form_bindings.specs.Values.{Binding}
+use Rattle.form_bindings.proofs.Kept.{bindings_more, entries_more, entry_last, binding_last, map_more}
+use Rattle.form_bindings.proofs.bindings.Bindings.push.Goals as goal
 
 on_err : {A E : Type 0} (r : Result A E) (P : Type 0) → P → OnErr r P
 on_err (Ok x) P p = tt

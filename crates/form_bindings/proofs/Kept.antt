@@ -5,9 +5,9 @@ use Rattle.std.proofs.Math.Seq.{drop-append_seam, take-length}
 use Rattle.std.proofs.lemmas.List.{drop-append-le, take-append-le, take-append-drop, length-take}
 use Rattle.std.proofs.lemmas.List.Elements.{All-nil, All-cons, All-head, All-tail}
 use Rattle.form_term.specs.declared.piece.Piece.{Piece}
-use Rattle.form_match.specs.declared.bindings.Entry.{Entry}
-use Rattle.form_match.specs.Entries.{IsEntry, binding_in}
-use Rattle.form_match.specs.Values.{IsValueOf, binding}
+use Rattle.form_bindings.specs.declared.bindings.Entry.{Entry}
+use Rattle.form_bindings.specs.Entries.{IsEntry, binding_in}
+use Rattle.form_bindings.specs.Values.{IsValueOf, binding}
 
 range_more : (start end : ℕ) (ps more : List Piece) → start ≤ end → end ≤ length ps → slice_range (ps ++ more) start end ≡ slice_range ps start end
 range_more start end ps more begins ends =

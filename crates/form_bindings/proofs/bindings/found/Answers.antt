@@ -1,6 +1,6 @@
 use Rattle.std.proofs.Common.{true, false, sym, ◌∙◌}
-use Rattle.form_match.proofs.Lookups.{looked_up, looked_through}
-use Rattle.form_match.proofs.bindings.found.Goals as goal
+use Rattle.form_bindings.proofs.Lookups.{looked_up, looked_through}
+use Rattle.form_bindings.proofs.bindings.found.Goals as goal
 
 pub returns-then-is_of : goal.returns-then-is_of
 returns-then-is_of c =

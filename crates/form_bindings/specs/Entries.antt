@@ -1,8 +1,8 @@
 -- Bindings as they are kept.
 use Rattle.std.specs.Prelude.{◌≤◌, List, length, slice_range}
 use Rattle.form_term.specs.declared.piece.Piece.{Piece}
-use Rattle.form_match.specs.declared.bindings.Entry.{Entry}
-use Rattle.form_match.specs.Values.{Binding, IsValueOf}
+use Rattle.form_bindings.specs.declared.bindings.Entry.{Entry}
+use Rattle.form_bindings.specs.Values.{Binding, IsValueOf}
 
 -- the binding that an entry is, by the pieces of all values
 abbrev pub binding_in : List Piece → Entry → Binding

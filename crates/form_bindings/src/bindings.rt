@@ -1,10 +1,9 @@
 ghost use Rattle.std.specs.Prelude.{◌≡◌, ◌∷◌, ◌++◌, [], All, IfOk, IfSome, OnErr, OnOk, map, option_map, ◌≤◌, length, take};
 ghost use Rattle.form_term.specs.Term.{is_nil};
-ghost use Rattle.form_match.specs.Entries.{IsEntry, binding_in};
-ghost use Rattle.form_match.specs.Values.{IsValueOf, is_same_wildcard, value_of};
+ghost use Rattle.form_bindings.specs.Entries.{IsEntry, binding_in};
+ghost use Rattle.form_bindings.specs.Values.{IsValueOf, is_same_wildcard, value_of};
 
-use crate::choices::short;
-use crate::values::is_same;
+use crate::{is_same, short};
 use form_base::Id;
 use form_term::Piece;
 use smallvec::SmallVec;
@@ -64,8 +63,8 @@ pub struct Bindings {
 
 impl Model for Bindings {
     ghost use Rattle.std.specs.Prelude.{All, List, map};
-    ghost use Rattle.form_match.specs.Entries.{IsEntry, binding_in};
-    ghost use Rattle.form_match.specs.Values.{Binding};
+    ghost use Rattle.form_bindings.specs.Entries.{IsEntry, binding_in};
+    ghost use Rattle.form_bindings.specs.Values.{Binding};
 
     ghost Value = { List Binding };
 
@@ -75,9 +74,8 @@ impl Model for Bindings {
 }
 
 impl Bindings {
-    ghost use Rattle.form_match.specs.Learning.{Tells};
-    ghost use Rattle.form_match.specs.Matching.{and_bound};
-    ghost use Rattle.form_match.specs.Values.{binding, is_same};
+    ghost use Rattle.form_bindings.specs.Learning.{Tells, and_bound};
+    ghost use Rattle.form_bindings.specs.Values.{binding, is_same};
 
     pub fn new(alloc: Global) -> Bindings
         ensures { result ≡ [] }
@@ -115,14 +113,14 @@ impl Bindings {
     }
 
     /// How many there are.
-    pub(crate) fn count(&self) -> usize
+    pub fn count(&self) -> usize
         ensures { result ≡ length self.now }
     {
         self.entries.len()
     }
 
     /// Leaves the first so many of them.
-    pub(crate) fn cut_to(&mut self, count: usize)
+    pub fn cut_to(&mut self, count: usize)
         ensures { self.new ≡ take count self.old }
     {
         if self.entries.len() <= count {
@@ -134,7 +132,7 @@ impl Bindings {
     }
 
     /// Whether a wildcard may stand for this: it does, or it isn't bound, and then it is bound to it.
-    pub(crate) fn learn(&mut self, wildcard: Wildcard, value: &[Piece]) -> Result<bool, AllocError>
+    pub fn learn(&mut self, wildcard: Wildcard, value: &[Piece]) -> Result<bool, AllocError>
         requires { IsValueOf wildcard value.now }
         ensures learnt { IfOk result (λ b. Tells b (and_bound self.old (binding wildcard value.now)) self.new) }
         ensures kept { take (length self.old) self.new ≡ self.old }

@@ -3,10 +3,10 @@ use Rattle.std.specs.Prelude.{All}
 use Rattle.std.proofs.lemmas.List.{take-map}
 use Rattle.std.proofs.lemmas.List.Elements.{All-take}
 use Rattle.form_term.specs.declared.piece.Piece.{Piece}
-use Rattle.form_match.specs.declared.bindings.Entry.{Entry}
-use Rattle.form_match.specs.Entries.{IsEntry, binding_in}
-use Rattle.form_match.proofs.Kept.{bindings_less, entries_less}
-use Rattle.form_match.proofs.bindings.Bindings.cut_to.Goals as goal
+use Rattle.form_bindings.specs.declared.bindings.Entry.{Entry}
+use Rattle.form_bindings.specs.Entries.{IsEntry, binding_in}
+use Rattle.form_bindings.proofs.Kept.{bindings_less, entries_less}
+use Rattle.form_bindings.proofs.bindings.Bindings.cut_to.Goals as goal
 
 pub invariant_of-self : goal.invariant_of-self
 invariant_of-self c =

@@ -4,11 +4,11 @@ use Rattle.std.specs.Prelude.{slice_range}
 use Rattle.std.proofs.lemmas.List.{drop_more, drop_all}
 use Rattle.std.proofs.lemmas.List.Elements.{All-head, All-tail}
 use Rattle.form_term.specs.declared.piece.Piece.{Piece}
-use Rattle.form_match.specs.declared.bindings.Entry.{Entry}
-use Rattle.form_match.specs.declared.bindings.Wildcard.{Wildcard}
-use Rattle.form_match.specs.declared.bindings.Wildcard.TheVariants.{Name, Field}
-use Rattle.form_match.specs.Entries.{IsEntry, binding_in}
-use Rattle.form_match.specs.Values.{IsValueOf, is_same_wildcard, value_of}
+use Rattle.form_bindings.specs.declared.bindings.Entry.{Entry}
+use Rattle.form_bindings.specs.declared.bindings.Wildcard.{Wildcard}
+use Rattle.form_bindings.specs.declared.bindings.Wildcard.TheVariants.{Name, Field}
+use Rattle.form_bindings.specs.Entries.{IsEntry, binding_in}
+use Rattle.form_bindings.specs.Values.{IsValueOf, is_same_wildcard, value_of}
 
 module _ (ps : List Piece) (es : List Entry) (w : Wildcard) (i : ℕ) where
   pub looked_up : (e : Entry) (b : Bool) → i < length es → e ≡ get_or es i e → b ≡ is_same_wildcard e.wildcard w
