@@ -13,6 +13,8 @@ mod operands;
 mod operator;
 mod row;
 mod stack;
+#[cfg(test)]
+mod tests;
 mod text;
 
 pub use calculation::calculate;
