@@ -7,7 +7,7 @@ use Rattle.form_calc.specs.declared.operand.Comparison.{Comparison}
 use Rattle.form_calc.specs.declared.operand.Comparison.TheVariants.{Equal, Unequal}
 use Rattle.form_calc.specs.Number.{number_of}
 use Rattle.form_calc.specs.Reading.{most_open, after_blanks, before, with_rest}
-use Rattle.form_calc.specs.Condition.{Reader, Operand, is_word_character, compared, compared_numbers, compared_texts, either, both, operand as operand_at, operand_in, comparison_at, comparison_in, double_in, with_second, with_comparison, with_first, comparison as comparison_of, test_in, test, joint_in, joint_at, conjunction, alternatives, truth_of}
+use Rattle.form_calc.specs.Condition.{Reader, Operand, is_word_character, compared, compared_numbers, compared_texts, either, both, operand as operand_at, operand_in, comparison_at, comparison_in, double_in, with_second, with_comparison, with_first, comparison as comparison_of, test_in, test_at, joint_in, joint_at, conjunction, alternatives, truth_of}
 use Rattle.form_calc.specs.Proposition as trees
 use Rattle.form_calc.specs.Proposition.{Alternatives, Conjunction, Test, Token, operand, comparison, text_of_comparison, truth_of_comparison, truth_of_alternatives, truth_of_conjunction, truth_of_test, is_order, AreComparable, AreLawful, IsLawfulConjunction, IsLawfulTest, tokens_of_alternatives, tokens_of_conjunction, tokens_of_test, IsWritten, AreTokens, IsCondition}
 use Rattle.form_calc.proofs.Spaces.{before_is, read_as, all_blank, front_of, StopsAt, blanks_stop, unlike}
@@ -174,17 +174,17 @@ module _ (opened : ℕ) (inner : Reader) (insides : IsInner language Alternative
             lawful = s.lawful;
           }
 
-  test_read : (t : Test) (text : List ℕ) (more : List Token) → IsLawfulTest opened t → EndsTest more → AreTokens text (tokens_of_test t ++ more) → ReadsTo language (test inner text) (truth_of_test t) more
-  unfolding test
+  test_read : (t : Test) (text : List ℕ) (more : List Token) → IsLawfulTest opened t → EndsTest more → AreTokens text (tokens_of_test t ++ more) → ReadsTo language (test_at inner text) (truth_of_test t) more
+  unfolding test_at
   test_read (trees.compared a c b) text more l k h =
       let s = subst Starts (sym (operand_first a text (comparison c ∷ operand b ∷ more) h)) (starts_at a text (comparison c ∷ operand b ∷ more) h) in
-      moved language (test inner text) (comparison_of text) (truth_of_comparison c a b) more (no_parenthesis inner text (after_blanks text) s) (compared_read a c b text more l k h)
+      moved language (test_at inner text) (comparison_of text) (truth_of_comparison c a b) more (no_parenthesis inner text (after_blanks text) s) (compared_read a c b text more l k h)
   test_read (trees.parenthesis s) text more l k h =
-      moved language (test inner text) (inner h.0) (truth_of_alternatives s) more
+      moved language (test_at inner text) (inner h.0) (truth_of_alternatives s) more
       (ap (test_in inner text) (first_is language text trees.Open ((tokens_of_alternatives s ++ trees.Close ∷ []) ++ more) (40 ∷ []) h h.1.is_written)) (insides.reads s h.0 more l tt h.2)
 
-  test_reader : IsReader language Test (tests opened) EndsTest (test inner)
-  unfolding test
+  test_reader : IsReader language Test (tests opened) EndsTest (test_at inner)
+  unfolding test_at
   test_reader = record { finds = λ text rest v h. test_found text (after_blanks text) rest v refl h; reads = test_read }
 
 -- ---- conjunctions and alternatives
@@ -267,7 +267,7 @@ end_ends = (
 conjunction_reader : (opened : ℕ) (inner : Reader) → IsInner language Alternatives disjunctions opened inner → IsReader language Conjunction (conjunctions opened) EndsConjunction (conjunction inner)
 unfolding conjunction
 conjunction_reader opened inner i =
-    chain_reader language Test Conjunction (Unit {0}) (tests opened) (conjunctions opened) (λ joint. trees.And) (λ joint. both) (test_chain opened) (joint_at 38) and_mark EndsTest (test inner) (test_reader opened inner i) (λ joint more. and_ends more)
+    chain_reader language Test Conjunction (Unit {0}) (tests opened) (conjunctions opened) (λ joint. trees.And) (λ joint. both) (test_chain opened) (joint_at 38) and_mark EndsTest (test_at inner) (test_reader opened inner i) (λ joint more. and_ends more)
 
 alternatives_reader : (opened : ℕ) (inner : Reader) → opened ≤ most_open → IsInner language Alternatives disjunctions opened inner → IsReader language Alternatives (disjunctions opened) EndsAlternatives (alternatives inner)
 unfolding alternatives

@@ -153,15 +153,15 @@ test_in inner text [] = None
 test_in inner text (c ∷ cs) = if c == 40 then inner cs else comparison text
 
 -- a comparison, or what stands in a parenthesis
-unfoldable pub test : Reader → List ℕ → Option (Option Bool × List ℕ)
-test inner text = test_in inner text (after_blanks text)
+unfoldable pub test_at : Reader → List ℕ → Option (Option Bool × List ℕ)
+test_at inner text = test_in inner text (after_blanks text)
 
 -- `&&` or `||` by its character
 unfoldable pub joint_at : ℕ → List ℕ → Option (Unit {0} × List ℕ)
 joint_at mark text = joint_in mark (after_blanks text)
 
 unfoldable pub conjunction : Reader → List ℕ → Option (Option Bool × List ℕ)
-conjunction inner text = chain (joint_at 38) (λ joint. both) (test inner) text
+conjunction inner text = chain (joint_at 38) (λ joint. both) (test_at inner) text
 
 unfoldable pub alternatives : Reader → List ℕ → Option (Option Bool × List ℕ)
 alternatives inner text = chain (joint_at 124) (λ joint. either) (conjunction inner) text

@@ -72,9 +72,9 @@ fn conjunction(text: &[u8], deeper: u64) -> Option<(Option<bool>, &[u8])>
 
 /// Whether the test at the front holds, and what follows it.
 #[cycle(condition)]
-#[tactic(auto, unfolding(crate::specs::Condition::test))]
+#[tactic(auto, unfolding(crate::specs::Condition::test_at))]
 fn test(text: &[u8], deeper: u64) -> Option<(Option<bool>, &[u8])>
-    ensures { MatchOption result (condition.test (condition.parenthesis deeper) text.now ≡ None) (λ x. condition.test (condition.parenthesis deeper) text.now ≡ Some (x.0, x.1.now)) }
+    ensures { MatchOption result (condition.test_at (condition.parenthesis deeper) text.now ≡ None) (λ x. condition.test_at (condition.parenthesis deeper) text.now ≡ Some (x.0, x.1.now)) }
 {
     let [first, inside @ ..] = after_blanks(text) else {
         return None;

@@ -13,8 +13,6 @@ mod operands;
 mod operator;
 mod row;
 mod stack;
-#[cfg(test)]
-mod tests;
 mod text;
 
 pub use calculation::calculate;

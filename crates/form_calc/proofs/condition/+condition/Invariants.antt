@@ -1,5 +1,5 @@
 use Rattle.std.proofs.Common.{◌≡◌, ◌+◌, ◌*◌, drop}
-use Rattle.form_calc.specs.Condition.{parenthesis, alternatives, joint_at, either, conjunction, both, test}
+use Rattle.form_calc.specs.Condition.{parenthesis, alternatives, joint_at, either, conjunction, both, test_at}
 use Rattle.form_calc.specs.Reading.{chained}
 use Rattle.form_calc.proofs.condition.+condition.Given as goal
 
@@ -23,4 +23,4 @@ abbrev pub invariant-alternatives-loop-turn : goal.invariant-alternatives-loop-t
 invariant-alternatives-loop-turn l = alternatives (parenthesis l.deeper) l.text ≡ chained (joint_at 124) (λ joint. either) (conjunction (parenthesis l.deeper)) (drop l._turn-index l.text) l.truth l.rest
 
 abbrev pub invariant-conjunction-loop-turn : goal.invariant-conjunction-loop-turn
-invariant-conjunction-loop-turn l = conjunction (parenthesis l.deeper) l.text ≡ chained (joint_at 38) (λ joint. both) (test (parenthesis l.deeper)) (drop l._turn-index l.text) l.truth l.rest
+invariant-conjunction-loop-turn l = conjunction (parenthesis l.deeper) l.text ≡ chained (joint_at 38) (λ joint. both) (test_at (parenthesis l.deeper)) (drop l._turn-index l.text) l.truth l.rest

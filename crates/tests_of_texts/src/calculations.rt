@@ -1,4 +1,6 @@
-use crate::{CalcError, calculate, holds};
+//! Calculations and conditions of the preprocessor.
+
+use form_calc::{CalcError, calculate, holds};
 use std::test::Fail;
 
 #[test]
