@@ -1,5 +1,5 @@
 -- Factors of a product: what their lists are, and what is left of them. A sum in parentheses has a limit of its own.
-use Rattle.std.specs.Prelude.{ℕ, suc}
+use Rattle.std.specs.Prelude.{ℕ, suc, Bool, true, false}
 use Rattle.form_expand.specs.declared.factor.Factor.{Factor}
 use Rattle.form_expand.specs.declared.factor.Factor.TheVariants as factors
 use Rattle.form_expand.specs.Inner.{Unwritten}
@@ -23,3 +23,10 @@ factor_left max (factors.Once walk) = walk_left max walk
 factor_left max (factors.Power power) = power_left max power.value
 factor_left max (factors.Parenthesis inner) = inner.value.left
 factor_left max (factors.Function f) = function_whole max f
+
+-- a list that is there as a whole
+abbrev pub is_once : Factor → Bool
+is_once (factors.Once walk) = true
+is_once (factors.Power power) = false
+is_once (factors.Parenthesis inner) = false
+is_once (factors.Function f) = false

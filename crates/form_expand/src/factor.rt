@@ -1,10 +1,11 @@
-ghost use Rattle.std.specs.Prelude.{◌≡◌, ◌≤◌, ℕ, suc, IfOk, OnOk};
+ghost use Rattle.std.specs.Prelude.{◌≡◌, ◌≤◌, [], ℕ, suc, true, IfOk, OnOk};
 ghost use Rattle.std.specs.Bool.{OnTrue};
+ghost use Rattle.form_term.specs.declared.monomial.Monomial.{Monomial as Item};
 ghost use Rattle.form_expand.specs.Bound.{powered, powered_by, refused_power};
-ghost use Rattle.form_expand.specs.Factors.{factor_left, factor_whole};
+ghost use Rattle.form_expand.specs.Factors.{factor_left, factor_whole, is_once};
 ghost use Rattle.form_expand.specs.Kept.{listing};
 ghost use Rattle.form_expand.specs.Left.{times_by};
-ghost use Rattle.form_expand.specs.Listing.{nothing, powers};
+ghost use Rattle.form_expand.specs.Listing.{nothing, powers, single};
 ghost use Rattle.form_expand.specs.Next.{Gives};
 ghost use Rattle.form_expand.specs.Readers.{list_of_calling};
 ghost use Rattle.form_expand.specs.Reading.{calling, list_of_pieces};
@@ -44,7 +45,9 @@ impl<'a> Factor<'a> {
         whole: Whole<'a>,
         power: u128,
     ) -> Result<Factor<'a>, AllocError>
-        ensures { IfOk result (λ factor. factor_whole limit factor ≡ powers limit (listing whole.entry) power) }
+        ensures list { IfOk result (λ factor. factor_whole limit factor ≡ powers limit (listing whole.entry) power) }
+        ensures once { (t : Item) → listing whole.entry ≡ single t → 1 ≤ limit → IfOk result (λ factor. is_once factor ≡ true) }
+        ensures none { 1 ≤ power → (listing whole.entry).terms ≡ [] → IfOk result (λ factor. is_once factor ≡ true) }
     {
         if power == 0 {
             return Ok(Factor::Once(Walk::new(Whole::single(Monomial::unit(alloc)))));
@@ -63,7 +66,9 @@ impl<'a> Factor<'a> {
         power: u128,
     ) -> Result<Factor<'a>, AllocError>
         requires { 2 ≤ power }
-        ensures { IfOk result (λ factor. factor_whole limit factor ≡ powers limit (listing whole.entry) power) }
+        ensures list { IfOk result (λ factor. factor_whole limit factor ≡ powers limit (listing whole.entry) power) }
+        ensures once { (t : Item) → listing whole.entry ≡ single t → 1 ≤ limit → IfOk result (λ factor. is_once factor ≡ true) }
+        ensures none { (listing whole.entry).terms ≡ [] → IfOk result (λ factor. is_once factor ≡ true) }
     {
         if whole.terms().is_empty() {
             return Ok(Factor::Once(Walk::new(whole)));

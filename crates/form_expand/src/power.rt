@@ -1,4 +1,5 @@
-ghost use Rattle.std.specs.Prelude.{◌≡◌, ◌↔◌, ◌≤◌, [], ◌++◌, ℕ, Some, None, IfOk, IfSome, IsTrue, OnOk, map, option_to_list};
+ghost use Rattle.std.specs.Prelude.{◌≡◌, ◌↔◌, ◌≤◌, [], ◌++◌, ℕ, Some, None, Ok, IfOk, IfSome, IsTrue, OnOk, map, option_to_list};
+ghost use Rattle.form_term.specs.declared.monomial.Monomial.{Monomial as Item};
 ghost use Rattle.form_term.specs.Term.{one};
 ghost use Rattle.form_expand.specs.Kept.{listing};
 ghost use Rattle.form_expand.specs.Left.{times_by};
@@ -26,7 +27,8 @@ pub fn single_power<'a>(
     power: u128,
 ) -> Result<Option<Whole<'a>>, AllocError>
     requires { 1 ≤ power }
-    ensures { IfOk result (λ found. IfSome found (λ made. limited limit (listing made) ≡ powers limit (listing whole.now) power)) }
+    ensures some { IfOk result (λ found. IfSome found (λ made. limited limit (listing made) ≡ powers limit (listing whole.now) power)) }
+    ensures none { result ≡ Ok None → (t : Item) → listing whole.now ≡ single t → limit ≡ 0 }
 {
     if !whole.is_alone(limit) {
         return Ok(None);

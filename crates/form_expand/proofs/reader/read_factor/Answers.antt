@@ -17,7 +17,7 @@ returns-in-Some-clause-read c = λ m.
     let found = rw c.in-Some.is at c.in_ok-whole.ensures in
     let list = listing c.in-Some.whole in
     let power = c.in-Some.power in
-    let factors = ap (map (factor_whole max)) c.in_ok-push.ensures.items ∙ factor_pushed max c.args.factors.now.items c.in_ok-new.field-0 (powers max list power) c.in_ok-new.ensures in
+    let factors = ap (map (factor_whole max)) c.in_ok-push.ensures.items ∙ factor_pushed max c.args.factors.now.items c.in_ok-new.field-0 (powers max list power) c.in_ok-new.ensures.list in
     piece_alone all c.args.piece.now list power (sym found) max m old c.args.more.now ∙ ap (λ fs. read_from all (in_product max m fs) c.args.more.now) (sym factors)
 
 pub returns-in-Function-clause-read : goal.returns-in-Function-clause-read
