@@ -4,7 +4,6 @@ use Rattle.std.specs.Prelude.{Some, None, Ok, Err}
 use Rattle.form_base.specs.declared.cause.Cause.{Cause}
 use Rattle.form_term.specs.declared.piece.Piece as kept
 use Rattle.form_term.specs.Term as terms
-use Rattle.form_term.specs.Term.{pieces_of_arguments}
 use Rattle.form_tree.specs.declared.tree.Piece.TheVariants as pieces
 use Rattle.form_tree.specs.Tree as tree
 use Rattle.form_tree.specs.Tree.{Argument, pieces_of_argument, pieces_of_sum}

@@ -1,7 +1,6 @@
 pub mod Alones
 pub mod Behind
 pub mod Called
-mod Counting
 pub mod Draining
 mod Ending
 pub mod Inverses
@@ -18,7 +17,6 @@ mod Moved
 mod Nearing
 pub mod NumberLists
 pub mod NumberPowers
-mod NumberStops
 pub mod NumberSums
 pub mod Parenthesized
 pub mod Places
@@ -28,8 +26,6 @@ pub mod Products
 pub mod Raised
 pub mod RowParts
 pub mod Rows
-mod Spent
-mod Stopping
 pub mod Streamed
 pub mod Taking
 pub mod Trees

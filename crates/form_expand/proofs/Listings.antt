@@ -171,10 +171,6 @@ pub taken_on : (ms : List Monomial) (m : Monomial) (l : Listing) → followed (r
 unfolding followed_at
 taken_on ms m l = ap (λ ns. record { terms = ns; end = l.end }) (sym (append_assoc ms (m ∷ []) l.terms))
 
-pub taken_to_end : (n : ℕ) (ms : List Monomial) (end : Option Cause) → length ms ≤ n → limited n (followed (record { terms = ms; end = None }) (record { terms = []; end = end })) ≡ record { terms = ms; end = end }
-unfolding followed_at
-taken_to_end n ms end short = ap (λ ns. limited n (record { terms = ns; end = end })) (append-nil ms) ∙ limited_within n (record { terms = ms; end = end }) short
-
 take_whole : {X : Type 0} (n : ℕ) (xs : List X) → n ≡ length xs → take n xs ≡ xs
 take_whole n xs e = rw e (take-length xs)
 

@@ -48,19 +48,18 @@ module _ (max : ℕ) (all : Meanings) where
       ∙ ap (λ args. list_of_call k (call f args)) (sym made.written)
 
   -- an expression begins
-  pub sum_argued : {E : Type 0} (r : Result (Option (Arguments × Bor (List Piece))) E) (ps : List Piece) (piece : Piece) (more : List Piece) (old : Arguments) → ps ≡ piece ∷ more → piece ≡ pieces.Argument
-      → IfOk r (λ found. IfSome found (λ read. IsArguedWithin max all more old read.0 read.1.now)) → IfOk r (λ found. IfSome found (λ read. IsArgued max all ps old read.0 read.1.now))
-  sum_argued (Ok None) ps piece more old is begins h = tt
-  sum_argued (Ok (Some read)) ps piece more old is begins h = record {
+  pub argument_read : (ps : List Piece) (piece : Piece) (more : List Piece) (old new : Arguments) (rest : List Piece) → ps ≡ piece ∷ more → piece ≡ pieces.Argument → IsArguedWithin max all more old new rest → IsArgued max all ps old new rest
+  argument_read ps piece more old new rest is begins h = record {
     further = λ f k args e.
         let made = h.further f k args e in
         record { now = made.now; written = made.written; read = ap (list_of_calling all (called max f k args)) is ∙ argument_opens all (called max f k args) piece more (ap opens begins) ∙ made.read };
-    first = pieces.Argument;
-    more = more;
-    begins = is ∙ ap (λ p. p ∷ more) begins;
-    behind = h.behind;
     shorter = omega (arith, ap length is, h.shorter);
   }
+
+  pub sum_argued : {E : Type 0} (r : Result (Option (Arguments × Bor (List Piece))) E) (ps : List Piece) (piece : Piece) (more : List Piece) (old : Arguments) → ps ≡ piece ∷ more → piece ≡ pieces.Argument
+      → IfOk r (λ found. IfSome found (λ read. IsArguedWithin max all more old read.0 read.1.now)) → IfOk r (λ found. IfSome found (λ read. IsArgued max all ps old read.0 read.1.now))
+  sum_argued (Ok None) ps piece more old is begins h = tt
+  sum_argued (Ok (Some read)) ps piece more old is begins h = argument_read ps piece more old read.0 read.1.now is begins h
   sum_argued (Err failed) ps piece more old is begins h = tt
 
 -- the terms of a list are collected

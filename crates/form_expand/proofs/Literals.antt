@@ -21,7 +21,6 @@ use Rattle.form_expand.specs.Meanings.{Meanings, function_of}
 use Rattle.form_expand.specs.Left.{row, row_behind}
 use Rattle.form_expand.specs.Listing.{Listing, nothing, single, before_by, limited, followed, pairs, powers, signed}
 use Rattle.form_expand.specs.Literals.{IsLiteral, IsTakenAt, IsTakenWithin, IsTimes, AreArgued, ReadsProduct}
-use Rattle.form_expand.specs.Passing.{past, past_place, IsPastProduct}
 use Rattle.form_expand.specs.Pieces.{list_of_piece}
 use Rattle.form_expand.specs.Readers.{EndsProduct, IsReadFunction, is_minus_piece, product_part, in_product, list_of_calling}
 use Rattle.form_expand.specs.Reading.{in_sum, in_function, fresh, calling, fed, read_from, list_of_pieces, begins_product}
@@ -112,26 +111,21 @@ module _ (max : ℕ) (all : Meanings) where
       ∙ read_ends max all is_minus h.factors rest ends
       ∙ ap (λ product. limited max (followed (signed is_minus product) (list_of_pieces max all rest))) (one_row max h.factors term h.some h.one)
 
-  pub literal_read : (ps : List Piece) (is_minus : Bool) (term : Monomial) (rest : List Piece) → IsReadTo ps is_minus term rest → EndsProduct rest → IsPastProduct ps rest → IsLiteral max all ps (record { is_minus = is_minus; term = term }) rest
-  literal_read ps is_minus term rest h ends behind = record {
-    list = product_read ps is_minus term rest h ends;
-    behind = behind;
-    shorter = h.shorter;
-  }
+  pub literal_read : (ps : List Piece) (is_minus : Bool) (term : Monomial) (rest : List Piece) → IsReadTo ps is_minus term rest → EndsProduct rest → IsLiteral max all ps (record { is_minus = is_minus; term = term }) rest
+  literal_read ps is_minus term rest h ends = record { list = product_read ps is_minus term rest h ends; shorter = h.shorter }
 
   -- a factor that is one piece
-  piece_taken : (piece : Piece) (l : Listing) (more : List Piece) (old new : Monomial) → list_of_piece all piece ≡ Some (l, 1) → past piece more ≡ more → IsTimes l old new → IsTakenAt max all piece more old new more
+  piece_taken : (piece : Piece) (l : Listing) (more : List Piece) (old new : Monomial) → list_of_piece all piece ≡ Some (l, 1) → IsTimes l old new → IsTakenAt max all piece more old new more
   unfolding powers
-  piece_taken piece l more old new is one t = record {
+  piece_taken piece l more old new is t = record {
     taken = record { list = l; times = t; read = λ factors m. piece_alone all piece l 1 is max m factors more };
-    behind = sym one;
     shorter = omega arith;
   }
 
-  pub taken_behind : (found : Option (Bor (List Piece))) (taken : Bool) (piece : Piece) (l : Listing) (more : List Piece) (old new : Monomial) → IfSome found (λ rest. (taken ≡ true) × (rest.now ≡ more)) → list_of_piece all piece ≡ Some (l, 1) → past piece more ≡ more → (taken ≡ true → IsTimes l old new)
+  pub taken_behind : (found : Option (Bor (List Piece))) (taken : Bool) (piece : Piece) (l : Listing) (more : List Piece) (old new : Monomial) → IfSome found (λ rest. (taken ≡ true) × (rest.now ≡ more)) → list_of_piece all piece ≡ Some (l, 1) → (taken ≡ true → IsTimes l old new)
       → IfSome found (λ rest. IsTakenAt max all piece more old new rest.now)
-  taken_behind None taken piece l more old new h is one t = tt
-  taken_behind (Some rest) taken piece l more old new h is one t = subst (λ (ps : List Piece). IsTakenAt max all piece more old new ps) (sym h.1) (piece_taken piece l more old new is one (t h.0))
+  taken_behind None taken piece l more old new h is t = tt
+  taken_behind (Some rest) taken piece l more old new h is t = subst (λ (ps : List Piece). IsTakenAt max all piece more old new ps) (sym h.1) (piece_taken piece l more old new is (t h.0))
 
   -- a wildcard
   pub taken_wild : (found : Option (Bor (List Piece))) (taken : Bool) (piece : Piece) (link : Link) (symbol : ℕ) (is_over : Bool) (power : ℤ) (more : List Piece) (old new : Monomial) → piece ≡ pieces.Wild link symbol is_over power
@@ -139,16 +133,12 @@ module _ (max : ℕ) (all : Meanings) where
       → IfSome found (λ rest. IsTakenAt max all piece more old new rest.now)
   taken_wild None taken piece link symbol is_over power more old new is h one t = tt
   taken_wild (Some rest) taken piece link symbol is_over power more old new is h one t =
-      taken_behind (Some rest) taken piece (wild_list all symbol is_over power).0 more old new h (ap (list_of_piece all) is ∙ ap Some (one h.0)) (ap (λ p. past p more) is) t
+      taken_behind (Some rest) taken piece (wild_list all symbol is_over power).0 more old new h (ap (list_of_piece all) is ∙ ap Some (one h.0)) t
 
   -- a function
   call_taken : (link : Link) (f : ℕ) (is_commuting : Bool) (more : List Piece) (old new : Monomial) (rest : List Piece) → IsTakenWithin (function_of all f) is_commuting max all more old new rest → IsTakenAt max all (pieces.Function link f is_commuting) more old new rest
   unfolding read_from fed
-  call_taken link f is_commuting more old new rest h = record {
-    taken = record { list = h.taken.list; times = h.taken.times; read = h.taken.read };
-    behind = h.behind;
-    shorter = h.shorter;
-  }
+  call_taken link f is_commuting more old new rest h = record { taken = record { list = h.taken.list; times = h.taken.times; read = h.taken.read }; shorter = h.shorter }
 
   pub call_taken_from : {E : Type 0} (r : Result (Option (Bor (List Piece))) E) (piece : Piece) (link : Link) (f g : ℕ) (is_commuting : Bool) (more : List Piece) (old new : Monomial) → piece ≡ pieces.Function link f is_commuting → g ≡ function_of all f
       → IfOk r (λ found. IfSome found (λ rest. IsTakenWithin g is_commuting max all more old new rest.now)) → IfOk r (λ found. IfSome found (λ rest. IsTakenAt max all piece more old new rest.now))
@@ -180,7 +170,6 @@ module _ (max : ℕ) (all : Meanings) where
       times = t;
       read = within_read f is_commuting arguments ps within rest len closes front behind argued;
     };
-    behind = behind ∙ sym (ap (λ found. past_place found ps) closes);
     shorter = short;
   }
 

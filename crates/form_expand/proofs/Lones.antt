@@ -20,21 +20,19 @@ use Rattle.form_expand.specs.declared.ended.Ended.TheVariants as ends
 use Rattle.form_expand.specs.declared.literal_arguments.Lone.{Lone}
 use Rattle.form_expand.specs.declared.literal_arguments.Lone.TheVariants as lones
 use Rattle.form_expand.specs.Bound.{wild_list}
-use Rattle.form_expand.specs.Calls.{called}
 use Rattle.form_expand.specs.Closings.{closing_at}
 use Rattle.form_expand.specs.Left.{row, row_behind}
 use Rattle.form_expand.specs.Listing.{Listing, single, limited, powers}
-use Rattle.form_expand.specs.Literals.{IsArgued, IsArguedWithin, ReadsProduct}
+use Rattle.form_expand.specs.Literals.{IsArguedWithin, ReadsProduct}
 use Rattle.form_expand.specs.Lones.{term_of, argument_of, IsPresent, IsLone}
 use Rattle.form_expand.specs.Meanings.{Meanings}
 use Rattle.form_expand.specs.Numbers.{number_list, symbol_list}
-use Rattle.form_expand.specs.Passing.{past_place}
 use Rattle.form_expand.specs.Pieces.{list_of_piece}
-use Rattle.form_expand.specs.Readers.{is_minus_piece, list_of_calling}
+use Rattle.form_expand.specs.Readers.{is_minus_piece}
 use Rattle.form_expand.specs.Reading.{list_of_pieces}
 use Rattle.form_expand.specs.Singles.{argument_of as argument_listed, of_collected}
 use Rattle.form_expand.specs.Walks.{all_of}
-use Rattle.form_expand.proofs.Called.{opens, argument_opens, piece_alone, expression_read, expression_ended}
+use Rattle.form_expand.proofs.Called.{piece_alone, expression_read, expression_ended}
 use Rattle.form_expand.proofs.Literals.{IsReadTo, product_read}
 use Rattle.form_expand.proofs.LiteralSums.{sum_begun, sum_more, sum_read}
 use Rattle.form_expand.proofs.Listings.{limited_again}
@@ -86,26 +84,12 @@ module _ (max : ℕ) (all : Meanings) where
         expression_read max all f k old new args e _ (list_of_pieces max all (piece ∷ [])) (term_of l ∷ []) rest
         (expression_ended max all f k args ps (piece ∷ []) rest 1 (ends.Power 1) (ap (closing_at 0 0) is ∙ h.closes rest) (sym (ap (take 1) is)) (sym (ap (drop 2) is)))
         (one_argument piece l room h added) (put ∙ ap (λ a. old ++ pieces_of_argument a) (same_argument l));
-    behind = sym (ap (λ found. past_place found ps) (ap (closing_at 0 0) is ∙ h.closes rest) ∙ ap (drop 2) is);
     shorter = omega (arith, ap length is);
   }
     where
       same_argument : (k : Lone) → argument_of k ≡ expression (summands_of (term_of k ∷ []))
       same_argument (lones.Number q) = refl
       same_argument (lones.Power p) = refl
-
-  -- and with that piece
-  pub lone_put : (ps : List Piece) (piece : Piece) (more : List Piece) (old new : Arguments) (rest : List Piece) → ps ≡ piece ∷ more → piece ≡ pieces.Argument → IsArguedWithin max all more old new rest → IsArgued max all ps old new rest
-  lone_put ps piece more old new rest is begins h = record {
-    further = λ f k args e.
-        let made = h.further f k args e in
-        record { now = made.now; written = made.written; read = ap (list_of_calling all (called max f k args)) is ∙ argument_opens all (called max f k args) piece more (ap opens begins) ∙ made.read };
-    first = pieces.Argument;
-    more = more;
-    begins = is ∙ ap (λ p. p ∷ more) begins;
-    behind = h.behind;
-    shorter = omega (arith, ap length is, h.shorter);
-  }
 
 -- ---- which pieces are such ones
 

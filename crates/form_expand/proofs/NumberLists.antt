@@ -1,5 +1,5 @@
 -- The list of a number's power, by the sign and size of the power.
-use Rattle.std.proofs.Common.{◌≡◌, ℕ, zero, suc, ◌/◌, ◌<◌, ◌≤◌, Bool, true, false, cond, [], length, ℤ, pos, negsuc, nat_abs, refl, sym, ap, subst, ◌∙◌, arith}
+use Rattle.std.proofs.Common.{◌≡◌, ℕ, zero, suc, ◌/◌, ◌<◌, ◌≤◌, Bool, false, cond, ℤ, pos, negsuc, nat_abs, refl, sym, ap, subst, ◌∙◌, arith}
 use Rattle.std.specs.Prelude.{Option, Some, None, Result, Ok, Err}
 use Rattle.std.specs.Option.{ok_or}
 use Rattle.std.specs.Result.{result_ok}
@@ -7,13 +7,10 @@ use Rattle.std.specs.Int.Signed.{lt_z}
 use Rattle.std.proofs.lemmas.Bool.{ne_eqb, lt-leb, le-leb, le-ltb}
 use Rattle.form_base.specs.declared.cause.Cause.TheVariants.{Overflow}
 use Rattle.form_frac.specs.Fraction.{Fraction, whole, largest, gcd, reduced, make, is_zero, IsLowest}
-use Rattle.form_frac.proofs.Fractions.{gcd_one}
 use Rattle.form_frac.specs.declared.frac_error.FracError.{FracError}
-use Rattle.form_frac.specs.declared.frac_error.FracError.TheVariants as errors
-use Rattle.form_term.specs.declared.monomial.Monomial.{Monomial}
 use Rattle.form_term.specs.Monomial.{unit}
 use Rattle.form_normal.specs.Product.{number_alone}
-use Rattle.form_expand.specs.Listing.{Listing, nothing, single, refusal}
+use Rattle.form_expand.specs.Listing.{nothing, single, refusal}
 use Rattle.form_expand.specs.Numbers.{raised, of_coefficient, of_fraction, number_list}
 
 pub number_of_none : (value : ℕ) (power : ℤ) → nat_abs power ≡ 0 → number_list value power ≡ single unit
@@ -67,49 +64,3 @@ number_is_whole n q some h is lowest =
     let one : gcd n 1 ≡ 1 = subst (λ (f : Fraction). gcd (nat_abs f.numerator) f.denominator ≡ 1) is lowest.is_coprime in
     number_is_alone n (pos 1) (whole (pos n)) (whole (pos n)) (omega arith) h (sym (whole_made n h one)) (ne_eqb n 0 (λ e. absurd (omega (arith, some, e)))) refl
     ∙ ap (λ f. single (number_alone f)) (sym is)
-
--- a list without terms isn't one term
-pub none_single : (l : Listing) → l.terms ≡ [] → (t : Monomial) → l ≡ single t → ⊥
-none_single l none t e =
-    let one : 0 ≡ 1 = ap length (sym none) ∙ ap (λ (k : Listing). length k.terms) e in
-    absurd (omega (arith, one))
-
--- what isn't a fraction has no power
-unmade_terms : (base : Result Fraction FracError) (k : ℕ) → result_ok base ≡ None → (of_fraction base k).terms ≡ []
-unmade_terms (Ok f) k e = absurd (cc)
-unmade_terms (Err errors.Overflow) k e = refl
-unmade_terms (Err errors.DivideByZero) k e = refl
-
-none_from : {E : Type 0} (o : Option Fraction) (e : E) (r : Result Fraction E) → r ≡ ok_or o e → result_ok r ≡ None → o ≡ None
-none_from None e r h none = refl
-none_from (Some x) e r h none = absurd (let some : Some x ≡ None = sym (ap result_ok h) ∙ none in cc)
-
--- powers without terms: of a number that is too large, of what isn't a fraction, of 0, and one that is too large
-pub number_past : (value : ℕ) (power : ℤ) → 1 ≤ nat_abs power → largest < value → (t : Monomial) → number_list value power ≡ single t → ⊥
-number_past value power some h = none_single (number_list value power) (ap (λ (l : Listing). l.terms) (number_too_large value power some h))
-
-pub number_unmade : (value : ℕ) (power : ℤ) (base : Result Fraction FracError) → 1 ≤ nat_abs power → value ≤ largest → base ≡ cond (lt_z power (pos 0)) (make (pos 1) (pos value)) (make (pos value) (pos 1))
-    → result_ok base ≡ None → (t : Monomial) → number_list value power ≡ single t → ⊥
-number_unmade value power base some h e none =
-    none_single (number_list value power) (ap (λ (l : Listing). l.terms) (sym (number_made value power base some h e)) ∙ unmade_terms base (nat_abs power) none)
-
-pub number_is_zero : (value : ℕ) (power : ℤ) (base : Fraction) → 1 ≤ nat_abs power → value ≤ largest → Ok base ≡ cond (lt_z power (pos 0)) (make (pos 1) (pos value)) (make (pos value) (pos 1))
-    → is_zero base ≡ true → (t : Monomial) → number_list value power ≡ single t → ⊥
-number_is_zero value power base some h e zeroed =
-    none_single (number_list value power)
-    (ap (λ (l : Listing). l.terms)
-    (sym (number_made value power (Ok base) some h e) ∙ ap (λ (b : Bool). cond b nothing (of_coefficient (raised base (nat_abs power)))) zeroed))
-
-pub number_overflows : {E : Type 0} (value : ℕ) (power : ℤ) (base : Fraction) (fault : E) (r : Result Fraction E) → 1 ≤ nat_abs power → value ≤ largest
-    → Ok base ≡ cond (lt_z power (pos 0)) (make (pos 1) (pos value)) (make (pos value) (pos 1)) → is_zero base ≡ false → r ≡ ok_or (raised base (nat_abs power)) fault → result_ok r ≡ None
-    → (t : Monomial) → number_list value power ≡ single t → ⊥
-number_overflows value power base fault r some h e present made none =
-    none_single (number_list value power)
-    (ap (λ (l : Listing). l.terms)
-    (sym (number_made value power (Ok base) some h e)
-    ∙ ap (λ (b : Bool). cond b nothing (of_coefficient (raised base (nat_abs power)))) present
-    ∙ ap of_coefficient (none_from (raised base (nat_abs power)) fault r made none)))
-
-pub number_of_zero : (value : ℕ) → value ≡ 0 → (t : Monomial) → number_list value (pos 1) ≡ single t → ⊥
-number_of_zero value e =
-    subst (λ (n : ℕ). (t : Monomial) → number_list n (pos 1) ≡ single t → ⊥) (sym e) (number_is_zero 0 (pos 1) (whole (pos 0)) (omega arith) (omega arith) (sym (whole_made 0 (omega arith) (gcd_one 0))) refl)

@@ -1,5 +1,5 @@
 -- Arguments that are sums of products of numbers.
-use Rattle.std.proofs.Common.{◌≡◌, ℕ, suc, ◌+◌, ◌<◌, ◌≤◌, Bool, true, false, List, [], ◌∷◌, ◌++◌, length, map, drop, refl, sym, ap, subst, ◌∙◌, arith}
+use Rattle.std.proofs.Common.{◌≡◌, ℕ, suc, ◌+◌, ◌<◌, ◌≤◌, Bool, true, false, List, [], ◌∷◌, ◌++◌, length, map, refl, sym, ap, subst, ◌∙◌, arith}
 use Rattle.std.specs.Prelude.{ℤ, Option, Some, None, Ok, IfSome, fold, option_and_then, option_map}
 use Rattle.std.specs.Borrow.{Bor}
 use Rattle.std.specs.Ordering.{eq_by_cmp}
@@ -22,21 +22,19 @@ use Rattle.form_tree.specs.declared.tree.Piece.TheVariants as pieces
 use Rattle.form_expand.specs.declared.number_sum.Adding.{Adding}
 use Rattle.form_expand.specs.Bound.{wild_list}
 use Rattle.form_expand.specs.Calls.{called}
-use Rattle.form_expand.specs.Closings.{closing_at}
 use Rattle.form_expand.specs.Left.{row}
 use Rattle.form_expand.specs.Listing.{Listing, nothing, single, limited, followed, powers, signed, with_sign}
 use Rattle.form_expand.specs.Literals.{IsTimes}
 use Rattle.form_expand.specs.Meanings.{Meanings}
 use Rattle.form_expand.specs.Numbers.{number_list}
 use Rattle.form_expand.specs.NumberSums.{IsNumberPiece, IsNumberArgument, IsEndOfSum, with_minus, added, total_of, begun_sum, further_sum}
-use Rattle.form_expand.specs.Passing.{past_place}
 use Rattle.form_expand.specs.Reading.{Part, Frame, Reading, in_sum, in_function, fresh, closed, begun, linked, with_factor, with_piece, fed, read_from}
 use Rattle.form_expand.specs.Singles.{argument_of, of_collected}
 use Rattle.form_expand.specs.Walks.{all_of}
 use Rattle.form_expand.proofs.Called.{expression_read}
 use Rattle.form_expand.proofs.Listings.{followed_last, limited_within, taken_on}
 use Rattle.form_expand.proofs.Literals.{IsOne, one_more, one_row}
-use Rattle.form_expand.proofs.Parenthesized.{drop_next, linked_first}
+use Rattle.form_expand.proofs.Parenthesized.{linked_first}
 
 -- ---- numbers are multiplied and collected
 
@@ -123,9 +121,6 @@ module _ (max : ℕ) (all : Meanings) (law : StandAlone) where
     pub alone : IsOne max factors (number_alone a.product)
     pub some : 0 < length factors
     pub room : length sums + 1 + length rest ≤ length ps
-    pub place : ℕ
-    pub left : rest ≡ drop place ps
-    pub closes : closing_at 0 0 ps ≡ closing_at place 0 rest
     pub read : (outer : List Frame) → read_from all (record { top = in_sum (fresh max); outer = outer }) ps
         ≡ read_from all (record { top = in_sum (part_of max a.is_minus sums factors); outer = outer }) rest
 
@@ -139,9 +134,6 @@ module _ (max : ℕ) (all : Meanings) (law : StandAlone) where
     alone = one_more max [] (single (number_alone q)) unit (number_alone q) refl (record { factor = number_alone q; alone = refl; by_one = law q h.lowest; product = law q h.lowest });
     some = omega arith;
     room = omega (arith, ap length is);
-    place = 1;
-    left = sym (ap (drop 1) is);
-    closes = ap (closing_at 0 0) is ∙ h.closes 0 more;
     read = λ outer.
         ap (read_from all (record { top = in_sum (fresh max); outer = outer })) is
         ∙ ap (λ (r : Reading). read_from all r more) (h.read (record { top = in_sum (fresh max); outer = outer }))
@@ -149,9 +141,6 @@ module _ (max : ℕ) (all : Meanings) (law : StandAlone) where
   }
 
   module _ (ps here : List Piece) (piece : Piece) (more : List Piece) (a : Adding) (q : Fraction) (is : here ≡ piece ∷ more) (h : IsAddedTo ps a here) where
-    left_behind : more ≡ drop (h.place + 1) ps
-    left_behind = sym (ap (drop 1) is) ∙ ap (drop 1) h.left ∙ drop_next h.place ps
-
     -- a further factor of its last product
     sum_times : (p : Fraction) → IsNumberPiece all piece links.Times q → multiply a.product q ≡ Some p → IsAddedTo ps (record { sum = a.sum; is_minus = a.is_minus; product = p }) more
     unfolding read_from powers
@@ -162,9 +151,6 @@ module _ (max : ℕ) (all : Meanings) (law : StandAlone) where
       alone = one_more max h.factors (single (number_alone q)) (number_alone a.product) (number_alone p) h.alone (number_times law a.product q p here_read.lowest made);
       some = omega (arith, length-append h.factors (limited max (single (number_alone q)) ∷ []));
       room = omega (arith, ap length is, h.room);
-      place = h.place + 1;
-      left = left_behind;
-      closes = h.closes ∙ ap (closing_at h.place 0) is ∙ here_read.closes h.place more;
       read = λ outer.
           let r : Reading = record { top = in_sum (part_of max a.is_minus h.sums h.factors); outer = outer } in
           h.read outer ∙ ap (read_from all r) is ∙ ap (λ (r : Reading). read_from all r more) (here_read.read r);
@@ -184,9 +170,6 @@ module _ (max : ℕ) (all : Meanings) (law : StandAlone) where
           alone = one_more max [] (single (number_alone q)) unit (number_alone q) refl (record { factor = number_alone q; alone = refl; by_one = law q here_read.lowest; product = law q here_read.lowest });
           some = omega arith;
           room = omega (arith, ap length is, h.room, length-append h.sums (last ∷ []));
-          place = h.place + 1;
-          left = left_behind;
-          closes = h.closes ∙ ap (closing_at h.place 0) is ∙ here_read.closes h.place more;
           read = λ outer.
               let r : Reading = record { top = in_sum part; outer = outer } in
               h.read outer ∙ ap (read_from all r) is ∙ ap (λ (x : Reading). read_from all x more) (here_read.read r)
@@ -214,7 +197,7 @@ module _ (max : ℕ) (all : Meanings) (law : StandAlone) where
 
   -- its end
   pub sum_ended : (ps here : List Piece) (piece : Piece) (rest : List Piece) (a : Adding) (q : Fraction) → here ≡ piece ∷ rest → IsAddedTo ps a here → length ps ≤ max → IsEndOfSum a piece q → IsNumberArgument max all ps q rest
-  unfolding read_from fed argument_of closing_at
+  unfolding read_from fed argument_of
   sum_ended ps here piece rest a q is h fits end =
       let part = part_of max a.is_minus h.sums h.factors in
       let qs = h.sums ++ with_minus a.is_minus a.product ∷ [] in
@@ -229,7 +212,6 @@ module _ (max : ℕ) (all : Meanings) (law : StandAlone) where
               (h.read (in_function (called max f k args) ∷ [])
               ∙ ap (read_from all (record { top = in_sum part; outer = in_function (called max f k args) ∷ [] })) (is ∙ ap (λ p. p ∷ rest) end.ends))
               argument put;
-          behind = sym (ap (drop 1) is) ∙ ap (drop 1) h.left ∙ drop_next h.place ps ∙ sym (ap (λ found. past_place found ps) (h.closes ∙ ap (closing_at h.place 0) (is ∙ ap (λ p. p ∷ rest) end.ends)));
           shorter = omega (arith, ap length is, h.room);
         };
       }
@@ -245,24 +227,22 @@ module _ (max : ℕ) (all : Meanings) (law : StandAlone) where
 module _ (all : Meanings) (piece : Piece) (link : Link) where
   pub number_piece : (found : Option (Link × Fraction)) (number : Option Fraction) (value : ℕ) (power : ℤ) → piece ≡ pieces.Number link value power → IfSome found (λ read. (read.0 ≡ link) × (number ≡ Some read.1))
       → IfSome number (λ q. (number_list value power ≡ single (number_alone q)) × IsLowest q) → IfSome found (λ read. IsNumberPiece all piece read.0 read.1)
-  unfolding fed closing_at
+  unfolding fed
   number_piece None number value power is l h = tt
   number_piece (Some read) number value power is l h =
       let one = subst (λ (n : Option Fraction). IfSome n (λ q. (number_list value power ≡ single (number_alone q)) × IsLowest q)) l.1 h in
       record {
         read = λ r. ap (fed all r) is ∙ ap (λ (x : Listing). with_piece link x 1 r) one.0 ∙ ap (λ (k : Link). with_piece k (single (number_alone read.1)) 1 r) (sym l.0);
-        closes = λ place rest. ap (λ (p : Piece). closing_at place 0 (p ∷ rest)) is;
         lowest = one.1;
       }
 
   pub wild_piece : (found : Option (Link × Fraction)) (number : Option Fraction) (symbol : ℕ) (is_over : Bool) (power : ℤ) → piece ≡ pieces.Wild link symbol is_over power → IfSome found (λ read. (read.0 ≡ link) × (number ≡ Some read.1))
       → IfSome number (λ q. (wild_list all symbol is_over power ≡ (single (number_alone q), 1)) × IsLowest q) → IfSome found (λ read. IsNumberPiece all piece read.0 read.1)
-  unfolding fed closing_at
+  unfolding fed
   wild_piece None number symbol is_over power is l h = tt
   wild_piece (Some read) number symbol is_over power is l h =
       let one = subst (λ (n : Option Fraction). IfSome n (λ q. (wild_list all symbol is_over power ≡ (single (number_alone q), 1)) × IsLowest q)) l.1 h in
       record {
         read = λ r. ap (fed all r) is ∙ ap (λ (x : Listing × ℕ). with_piece link x.0 x.1 r) one.0 ∙ ap (λ (k : Link). with_piece k (single (number_alone read.1)) 1 r) (sym l.0);
-        closes = λ place rest. ap (λ (p : Piece). closing_at place 0 (p ∷ rest)) is;
         lowest = one.1;
       }

@@ -104,7 +104,7 @@ map_same : {X : Type 0} (f : X → X) (h : (x : X) → f x ≡ x) (xs : List X) 
 map_same f h [] = refl
 map_same f h (x ∷ xs) = ap (λ y. y ∷ map f xs) (h x) ∙ ap (λ ys. x ∷ ys) (map_same f h xs)
 
-signed_plus : (l : Listing) → signed false l ≡ l
+pub signed_plus : (l : Listing) → signed false l ≡ l
 signed_plus l = ap (λ ms. record { terms = ms; end = l.end }) (map_same (with_sign false) (λ m. refl) l.terms)
 
 -- a product with nothing to read behind it

@@ -23,14 +23,12 @@ pub mod Numbers
 pub mod Paired
 pub mod Parentheses
 pub mod Parts
-pub mod Passing
 pub mod Pieces
 pub mod Products
 pub mod Readers
 pub mod Reading
 pub mod RowLists
 pub mod Singles
-pub mod Stops
 pub mod Stored
 pub mod Streams
 pub mod Walks

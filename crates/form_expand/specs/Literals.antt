@@ -11,7 +11,6 @@ use Rattle.form_expand.specs.declared.literal.Literal.{Literal}
 use Rattle.form_expand.specs.Calls.{called, IsFurther}
 use Rattle.form_expand.specs.Meanings.{Meanings}
 use Rattle.form_expand.specs.Listing.{Listing, single, limited, followed, signed}
-use Rattle.form_expand.specs.Passing.{past, past_end, IsPastProduct}
 use Rattle.form_expand.specs.Readers.{IsReadFactor, IsReadFunction, list_of_calling}
 use Rattle.form_expand.specs.Reading.{in_sum, in_function, fresh, calling, read_from, list_of_pieces}
 use Rattle.form_expand.specs.Singles.{list_of_call}
@@ -32,13 +31,11 @@ pub record IsTaken (max : ℕ) (Reads : List Listing → List Listing → Type 0
 -- The factor that begins with this piece is taken, which leaves these pieces.
 pub record IsTakenAt (max : ℕ) (all : Meanings) (piece : Piece) (more : List Piece) (old new : Monomial) (rest : List Piece) : Type 0 where
   pub taken : IsTaken max (λ before after. IsReadFactor max all piece more before after rest) old new
-  pub behind : rest ≡ past piece more
   pub shorter : length rest ≤ length more
 
 -- the same of a function, behind the piece that begins it
 pub record IsTakenWithin (f : ℕ) (is_commuting : Bool) (max : ℕ) (all : Meanings) (pieces : List Piece) (old new : Monomial) (rest : List Piece) : Type 0 where
   pub taken : IsTaken max (λ before after. IsReadFunction f is_commuting max all pieces before after rest) old new
-  pub behind : rest ≡ past_end pieces
   pub shorter : length rest ≤ length pieces
 
 -- these are the arguments that pieces give, whatever the function
@@ -48,17 +45,12 @@ AreArgued max all ps arguments = (f : ℕ) (is_commuting : Bool) → list_of_cal
 -- a further argument is read, which leaves these pieces
 pub record IsArgued (max : ℕ) (all : Meanings) (ps : List Piece) (old new : Arguments) (rest : List Piece) : Type 0 where
   pub further : (f : ℕ) (is_commuting : Bool) (args : List Argument) → old ≡ pieces_of_arguments args → IsFurther max all (list_of_calling all (called max f is_commuting args) ps) f is_commuting new rest
-  pub first : Piece
-  pub more : List Piece
-  pub begins : ps ≡ first ∷ more
-  pub behind : rest ≡ past first more
   pub shorter : length rest < length ps
 
 -- the same of an expression, behind the piece that begins it
 pub record IsArguedWithin (max : ℕ) (all : Meanings) (ps : List Piece) (old new : Arguments) (rest : List Piece) : Type 0 where
   pub further : (f : ℕ) (is_commuting : Bool) (args : List Argument) → old ≡ pieces_of_arguments args
       → IsFurther max all (read_from all (record { top = in_sum (fresh max); outer = in_function (called max f is_commuting args) ∷ [] }) ps) f is_commuting new rest
-  pub behind : rest ≡ past_end ps
   pub shorter : length rest ≤ length ps
 
 -- a product of this list is read at the front of these pieces, which leaves those
@@ -68,5 +60,4 @@ ReadsProduct max all ps l rest = list_of_pieces max all ps ≡ limited max (foll
 -- The product at the front of these pieces is this term, and leaves those pieces.
 pub record IsLiteral (max : ℕ) (all : Meanings) (pieces : List Piece) (l : Literal) (rest : List Piece) : Type 0 where
   pub list : ReadsProduct max all pieces l rest
-  pub behind : IsPastProduct pieces rest
   pub shorter : length rest < length pieces

@@ -1,24 +1,20 @@
 -- Arguments that are one piece: a number, or a power of a symbol.
-use Rattle.std.specs.Prelude.{◌≡◌, ◌<◌, ◌≤◌, ◌⊎◌, ℕ, pos, true, false, nat_abs, List, [], ◌∷◌, ◌++◌, Some, None}
+use Rattle.std.specs.Prelude.{◌≡◌, ◌<◌, ◌≤◌, ℕ, pos, false, nat_abs, List, [], ◌∷◌, ◌++◌, Some}
 use Rattle.form_frac.specs.Fraction.{whole, is_zero}
 use Rattle.form_term.specs.declared.arguments.Arguments.{Arguments}
 use Rattle.form_term.specs.declared.monomial.Monomial.{Monomial}
 use Rattle.form_term.specs.Monomial.{number_argument, power_argument}
 use Rattle.form_term.specs.Term.{Argument, one, of_symbols, largest_exponent, pieces_of_argument}
 use Rattle.form_tree.specs.declared.tree.Piece.{Piece}
-use Rattle.form_tree.specs.declared.tree.Piece.TheVariants as pieces
 use Rattle.form_tree.specs.declared.tree.Piece.TheVariants.{EndOfArgument}
 use Rattle.form_expand.specs.declared.ended.Ended.TheVariants as ends
 use Rattle.form_expand.specs.declared.literal_arguments.Lone.{Lone}
 use Rattle.form_expand.specs.declared.literal_arguments.Lone.TheVariants.{Number, Power}
-use Rattle.form_expand.specs.Bound.{wild_list}
 use Rattle.form_expand.specs.Closings.{closing_at}
 use Rattle.form_expand.specs.Listing.{single}
 use Rattle.form_expand.specs.Literals.{IsArguedWithin}
-use Rattle.form_expand.specs.Meanings.{Meanings, number_bound}
-use Rattle.form_expand.specs.Numbers.{number_list}
+use Rattle.form_expand.specs.Meanings.{Meanings}
 use Rattle.form_expand.specs.Pieces.{list_of_piece}
-use Rattle.form_expand.specs.Readers.{is_minus_piece}
 
 -- its term, and the argument that is this term
 abbrev pub term_of : Lone → Monomial
@@ -44,18 +40,3 @@ pub record IsLone (all : Meanings) (piece : Piece) (l : Lone) : Type 0 where
 pub record IsLoneArgument (max : ℕ) (all : Meanings) (ps : List Piece) (l : Lone) (rest : List Piece) : Type 0 where
   pub present : IsPresent l
   pub read : (old new : Arguments) → new ≡ old ++ pieces_of_argument (argument_of l) → IsArguedWithin max all ps old new rest
-
--- ---- why an argument isn't that
-
--- a piece is neither a number but 0, nor a power of a symbol but 0, up to the largest, nor a wildcard alone that stands for
--- such a number
-abbrev pub IsNoLone : Meanings → Piece → Type 0
-IsNoLone all (pieces.Number link value power) = (t : Monomial) → number_list value power ≡ single t → is_zero t.coefficient ≡ true
-IsNoLone all (pieces.Symbol link symbol power) = 0 < nat_abs power → nat_abs power ≤ largest_exponent → ⊥
-IsNoLone all (pieces.Wild link symbol is_over power) = is_over ≡ false → power ≡ pos 1
-    → (number_bound all symbol ≡ None) ⊎ ((t : Monomial) → wild_list all symbol is_over power ≡ (single t, 1) → is_zero t.coefficient ≡ true)
-IsNoLone all piece = Unit {0}
-
--- behind the piece that begins an expression; one behind a minus isn't looked at, nor any where the limit is 0
-abbrev pub IsNoLoneArgument : ℕ → Meanings → List Piece → Type 0
-IsNoLoneArgument max all ps = (p : Piece) (rest : List Piece) → ps ≡ p ∷ EndOfArgument ∷ rest → 0 < max → is_minus_piece p ≡ false → IsNoLone all p

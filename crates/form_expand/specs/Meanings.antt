@@ -5,12 +5,10 @@ use Rattle.form_term.specs.declared.index.Component.{Component}
 use Rattle.form_term.specs.declared.index.Index.{Index}
 use Rattle.form_term.specs.declared.index.Index.TheVariants as indices
 use Rattle.form_term.specs.declared.monomial.Monomial.{Monomial}
-use Rattle.form_term.specs.declared.piece.Coefficient.{Coefficient}
 use Rattle.form_term.specs.declared.piece.Piece.{Piece}
 use Rattle.form_term.specs.declared.piece.Piece.TheVariants as pieces
 use Rattle.form_term.specs.Arguments.{arguments_of, first_summands}
 use Rattle.form_term.specs.Monomial.{as_monomial}
-use Rattle.form_term.specs.Reading.{coefficient_of}
 use Rattle.form_term.specs.Term.{Argument, is_nil, is_nothing}
 use Rattle.form_bindings.specs.declared.bindings.Wildcard.TheVariants.{Name, Field}
 use Rattle.form_bindings.specs.Values.{Binding, value_of}
@@ -92,10 +90,6 @@ terms_at ps = map as_monomial (first_summands (arguments_of ps))
 
 abbrev pub terms_bound : Meanings → ℕ → Option (List Monomial)
 terms_bound all s = option_map terms_at (expression_of all s)
-
--- the number that a symbol stands for; none where it isn't bound, or to no number, or to 0
-abbrev pub number_bound : Meanings → ℕ → Option Coefficient
-number_bound all s = option_and_then coefficient_of (expression_of all s)
 
 -- the whole number that these terms are
 abbrev pub number_in : Monomial → Option ℤ

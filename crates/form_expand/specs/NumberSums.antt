@@ -1,28 +1,24 @@
 -- Arguments that are sums of products of numbers.
-use Rattle.std.specs.Prelude.{◌≡◌, ℕ, pos, ◌+◌, ◌<◌, ◌⊎◌, Bool, true, false, List, [], ◌∷◌, ◌++◌, length, Option, Some, None, option_map, if◌then◌else◌}
+use Rattle.std.specs.Prelude.{◌≡◌, ℕ, Bool, true, false, List, ◌++◌, Option, Some, None, option_map, if◌then◌else◌}
 use Rattle.form_frac.specs.Fraction.{Fraction, IsLowest, add, multiply, negate, is_zero}
 use Rattle.form_term.specs.declared.arguments.Arguments.{Arguments}
-use Rattle.form_term.specs.declared.monomial.Monomial.{Monomial}
 use Rattle.form_term.specs.Monomial.{number_argument}
 use Rattle.form_term.specs.Term.{pieces_of_argument}
 use Rattle.form_normal.specs.Product.{number_alone}
 use Rattle.form_tree.specs.declared.tree.Link.{Link}
 use Rattle.form_tree.specs.declared.tree.Link.TheVariants as links
 use Rattle.form_tree.specs.declared.tree.Piece.{Piece}
-use Rattle.form_tree.specs.declared.tree.Piece.TheVariants.{Number, Wild, EndOfArgument}
+use Rattle.form_tree.specs.declared.tree.Piece.TheVariants.{EndOfArgument}
 use Rattle.form_expand.specs.declared.number_sum.Adding.{Adding}
-use Rattle.form_expand.specs.Closings.{closing_at}
 use Rattle.form_expand.specs.Listing.{single}
 use Rattle.form_expand.specs.Literals.{IsArguedWithin}
-use Rattle.form_expand.specs.Meanings.{Meanings, number_bound}
-use Rattle.form_expand.specs.Numbers.{number_list}
+use Rattle.form_expand.specs.Meanings.{Meanings}
 use Rattle.form_expand.specs.Reading.{Reading, with_piece, fed}
 use Rattle.form_expand.specs.Readers.{is_minus_link}
 
 -- a piece is a number as a factor
 pub record IsNumberPiece (all : Meanings) (piece : Piece) (link : Link) (q : Fraction) : Type 0 where
   pub read : (r : Reading) → fed all r piece ≡ with_piece link (single (number_alone q)) 1 r
-  pub closes : (place : ℕ) (rest : List Piece) → closing_at place 0 (piece ∷ rest) ≡ closing_at (place + 1) 0 rest
   pub lowest : IsLowest q
 
 abbrev pub with_minus : Bool → Fraction → Fraction
@@ -62,35 +58,3 @@ pub record IsEndOfSum (a : Adding) (end : Piece) (q : Fraction) : Type 0 where
 pub record IsNumberArgument (max : ℕ) (all : Meanings) (ps : List Piece) (q : Fraction) (rest : List Piece) : Type 0 where
   pub present : is_zero q ≡ false
   pub read : (old new : Arguments) → new ≡ old ++ pieces_of_argument (number_argument q) → IsArguedWithin max all ps old new rest
-
--- ---- why an argument isn't such a sum
-
--- a piece is no number but 0: another one, one that is refused, or a wildcard after `/`, to a power, or that stands for no
--- number
-abbrev pub IsNoNumber : Meanings → Piece → Type 0
-IsNoNumber all (Number link value power) = (t : Monomial) → number_list value power ≡ single t → ⊥
-IsNoNumber all (Wild link symbol is_over power) = is_over ≡ false → power ≡ pos 1 → number_bound all symbol ≡ None
-IsNoNumber all piece = Unit {0}
-
--- a piece is a number, and behind it there is a reason
-pub record IsBehindNumber (all : Meanings) (piece : Piece) (Reason : Link → Fraction → Type 0) : Type 0 where
-  pub link : Link
-  pub number : Fraction
-  pub is : IsNumberPiece all piece link number
-  pub reason : Reason link number
-
--- A sum, of which so much is read, isn't read to its end: there is none, or a piece is no number and doesn't end it, or it
--- is 0, or it overflows.
-unfoldable pub StopsNumbers : Meanings → Adding → List Piece → Type 0
-StopsNumbers all a [] = Unit {0}
-StopsNumbers all a (p ∷ ps) =
-    (IsNoNumber all p × ((q : Fraction) → IsEndOfSum a p q → ⊥))
-    ⊎ IsBehindNumber all p (λ link q. (b : Adding) → further_sum a link q ≡ Some b → StopsNumbers all b ps)
-
-abbrev pub BeginsNoNumbers : Meanings → List Piece → Type 0
-BeginsNoNumbers all [] = Unit {0}
-BeginsNoNumbers all (p ∷ ps) = IsNoNumber all p ⊎ IsBehindNumber all p (λ link q. StopsNumbers all (begun_sum link q) ps)
-
--- behind the piece that begins an expression; nor is it read where more pieces are there than the limit
-abbrev pub IsNoNumberArgument : ℕ → Meanings → List Piece → Type 0
-IsNoNumberArgument max all ps = (max < length ps) ⊎ BeginsNoNumbers all ps

@@ -1,12 +1,11 @@
 //! Symbols that wildcards stand for, and factors to a power that a wildcard stands for.
-ghost use Rattle.std.specs.Prelude.{◌≡◌, ◌≤◌, ℕ, pos, true, false, [], ◌∷◌, nat_abs, map, All, Some, None, IfOk, IfSome};
+ghost use Rattle.std.specs.Prelude.{◌≡◌, ◌≤◌, ℕ, true, [], ◌∷◌, nat_abs, map, All, Some, IfOk, IfSome};
 ghost use Rattle.form_frac.specs.Fraction.{largest, IsLowest};
 ghost use Rattle.form_term.specs.Term.{largest_exponent};
 ghost use Rattle.form_normal.specs.Product.{number_alone};
 ghost use Rattle.form_expand.specs.Bound as definition;
 ghost use Rattle.form_expand.specs.Kept.{listing, listed};
 ghost use Rattle.form_expand.specs.Listing.{single};
-ghost use Rattle.form_expand.specs.Meanings.{number_bound};
 ghost use Rattle.form_expand.specs.Numbers as numbers;
 ghost use Rattle.form_expand.specs.Singles.{dot_list as dot_list_of};
 
@@ -60,9 +59,7 @@ fn expression_to<'a>(
 /// The number that a wildcard stands for as a factor. None where it isn't one or is 0, and where the wildcard stands after `/`
 /// or has a power.
 pub fn bound_number(names: &Standing, symbol: Id, is_over: bool, power: i32) -> Option<Frac>
-    ensures some { IfSome result (λ number. (definition.wild_list names.now symbol is_over power ≡ (single (number_alone number), 1)) × IsLowest number) }
-    ensures none { result ≡ None → is_over ≡ false → power ≡ pos 1 → number_bound names.now symbol ≡ None }
-    ensures once { IfSome result (λ number. (is_over ≡ false) × (power ≡ pos 1)) }
+    ensures { IfSome result (λ number. (definition.wild_list names.now symbol is_over power ≡ (single (number_alone number), 1)) × IsLowest number) }
 {
     if is_over {
         return None;

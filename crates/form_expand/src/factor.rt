@@ -207,9 +207,7 @@ impl<'a> Factor<'a> {
 
     /// Whether it is a list that is there as a whole, has no further term, and isn't refused behind the last.
     pub fn is_spent(&self) -> bool
-        ensures left { OnTrue result ((max : ℕ) → factor_left max self.now ≡ nothing) }
-        ensures exactly { is_once self.now ≡ true → ((max : ℕ) → factor_left max self.now ≡ nothing) → result ≡ true }
-        ensures once { result ≡ true → is_once self.now ≡ true }
+        ensures { OnTrue result ((max : ℕ) → factor_left max self.now ≡ nothing) }
     {
         match self {
             Factor::Once(walk) => walk.is_spent(),

@@ -1,16 +1,14 @@
 //! Products that are one term, each read into that term: of numbers, symbols, wildcards that stand for a number, and functions
 //! to no power whose arguments are sums of few such products.
-ghost use Rattle.std.specs.Prelude.{◌≡◌, ◌⊎◌, ℕ, pos, true, false, [], ◌∷◌, Some, None, Ok, IfOk, IfSome};
+ghost use Rattle.std.specs.Prelude.{◌≡◌, true, Some, Ok, IfOk, IfSome};
 ghost use Rattle.form_normal.specs.Factors.{HasRoom};
 ghost use Rattle.form_expand.specs.Bound.{wild_list};
 ghost use Rattle.form_expand.specs.Closings.{closing_at};
 ghost use Rattle.form_expand.specs.declared.ended.Ended.TheVariants as ends;
 ghost use Rattle.form_expand.specs.Listing.{with_sign};
 ghost use Rattle.form_expand.specs.Literals.{IsLiteral, IsTakenAt, IsTakenWithin, IsTimes};
-ghost use Rattle.form_expand.specs.Meanings.{number_bound};
 ghost use Rattle.form_expand.specs.Numbers.{number_list, symbol_list};
 ghost use Rattle.form_expand.specs.Singles.{list_of_call};
-ghost use Rattle.form_expand.specs.Stops.{GivesNothing, HasNoProduct, StopsFactor, StopsFunction, StopsProduct, StopsSum};
 
 use crate::bound::bound_number;
 use crate::ended::Ended;
@@ -57,8 +55,7 @@ pub fn read_literal<'a>(
     limit: u64,
     deeper: u64,
 ) -> Result<Option<(Literal, &'a [Piece])>, AllocError>
-    ensures some { IfOk result (λ found. IfSome found (λ read. IsLiteral limit names.now pieces.now read.0 read.1.now)) }
-    ensures none { result ≡ Ok None → StopsProduct limit names.now (StopsSum limit names.now deeper) pieces.now }
+    ensures { IfOk result (λ found. IfSome found (λ read. IsLiteral limit names.now pieces.now read.0 read.1.now)) }
 {
     let Some((first, more)) = pieces.split_first() else {
         return Ok(None);
@@ -91,8 +88,7 @@ fn take<'a>(
     limit: u64,
     deeper: u64,
 ) -> Result<Option<&'a [Piece]>, AllocError>
-    ensures some { IfOk result (λ found. IfSome found (λ rest. IsTakenAt limit names.now piece.now more.now front.old front.new rest.now)) }
-    ensures none { result ≡ Ok None → StopsFactor limit names.now (StopsSum limit names.now deeper) front.old piece.now more.now }
+    ensures { IfOk result (λ found. IfSome found (λ rest. IsTakenAt limit names.now piece.now more.now front.old front.new rest.now)) }
 {
     match piece {
         Piece::Number { value, power, .. } => {
@@ -133,8 +129,7 @@ fn take<'a>(
 
 /// These pieces, where what is before them is taken.
 fn behind(is_taken: bool, pieces: &[Piece]) -> Option<&[Piece]>
-    ensures some { IfSome result (λ rest. (is_taken ≡ true) × (rest.now ≡ pieces.now)) }
-    ensures none { result ≡ None → is_taken ≡ false }
+    ensures { IfSome result (λ rest. (is_taken ≡ true) × (rest.now ≡ pieces.now)) }
 {
     if is_taken { Some(pieces) } else { None }
 }
@@ -145,8 +140,7 @@ fn take_number(
     value: u128,
     power: i32,
 ) -> Result<bool, AllocError>
-    ensures times { result ≡ Ok true → IsTimes (number_list value power) front.old front.new }
-    ensures none { result ≡ Ok false → HasNoProduct (number_list value power) front.old }
+    ensures { result ≡ Ok true → IsTimes (number_list value power) front.old front.new }
 {
     laws::single_factors();
     let Some(number) = number_alone(value, power) else {
@@ -161,8 +155,7 @@ fn take_symbol(
     symbol: Id,
     power: i32,
 ) -> Result<bool, AllocError>
-    ensures times { result ≡ Ok true → IsTimes (symbol_list symbol power) front.old front.new }
-    ensures none { result ≡ Ok false → HasNoProduct (symbol_list symbol power) front.old }
+    ensures { result ≡ Ok true → IsTimes (symbol_list symbol power) front.old front.new }
 {
     laws::single_factors();
     if power.unsigned_abs() > LARGEST_EXPONENT {
@@ -186,8 +179,6 @@ fn take_wild(
 ) -> Result<bool, AllocError>
     ensures one { result ≡ Ok true → wild_list names.now symbol is_over power ≡ ((wild_list names.now symbol is_over power).0, 1) }
     ensures times { result ≡ Ok true → IsTimes (wild_list names.now symbol is_over power).0 front.old front.new }
-    ensures none { result ≡ Ok false → is_over ≡ false → power ≡ pos 1
-        → (number_bound names.now symbol ≡ None) ⊎ HasNoProduct (wild_list names.now symbol is_over power).0 front.old }
 {
     laws::single_factors();
     let Some(number) = bound_number(names, symbol, is_over, power) else {
@@ -208,8 +199,7 @@ fn take_function<'a>(
     is_commuting: bool,
     deeper: u64,
 ) -> Result<Option<&'a [Piece]>, AllocError>
-    ensures some { IfOk result (λ found. IfSome found (λ rest. IsTakenWithin function is_commuting limit names.now pieces.now front.old front.new rest.now)) }
-    ensures none { result ≡ Ok None → StopsFunction limit names.now (StopsSum limit names.now deeper) function front.old pieces.now }
+    ensures { IfOk result (λ found. IfSome found (λ rest. IsTakenWithin function is_commuting limit names.now pieces.now front.old front.new rest.now)) }
 {
     let Some(len) = closing_once(pieces) else {
         return Ok(None);
@@ -228,8 +218,7 @@ fn take_function<'a>(
 
 /// How many pieces there are before the one that ends what is open before them, where its power is 1.
 pub fn closing_once(pieces: &[Piece]) -> Option<usize>
-    ensures some { IfSome result (λ len. closing_at 0 0 pieces.now ≡ Some (len, ends.Power 1)) }
-    ensures none { result ≡ None → (len : ℕ) → closing_at 0 0 pieces.now ≡ Some (len, ends.Power 1) → ⊥ }
+    ensures { IfSome result (λ len. closing_at 0 0 pieces.now ≡ Some (len, ends.Power 1)) }
 {
     match closing(pieces) {
         Some((len, Ended::Power(1))) => Some(len),
@@ -243,8 +232,7 @@ fn take_call(
     call: Call,
     is_commuting: bool,
 ) -> Result<bool, AllocError>
-    ensures times { result ≡ Ok true → IsTimes (list_of_call is_commuting call) front.old front.new }
-    ensures none { result ≡ Ok false → HasRoom front.old.term call → ⊥ }
+    ensures { result ≡ Ok true → IsTimes (list_of_call is_commuting call) front.old front.new }
 {
     if !has_room(front, &call) {
         return Ok(false);
@@ -273,8 +261,7 @@ fn with_call(
 
 /// Whether there is a product, which is neither refused nor 0.
 fn made(answer: Result<bool, ProductError>) -> Result<bool, AllocError>
-    ensures some { result ≡ Ok true → answer ≡ Ok true }
-    ensures none { result ≡ Ok false → GivesNothing answer }
+    ensures { result ≡ Ok true → answer ≡ Ok true }
 {
     match answer {
         Ok(is_made) => Ok(is_made),

@@ -1,22 +1,14 @@
 //! Arguments of functions that are sums of few products, each of which is one term.
-ghost use Rattle.std.specs.Prelude.{◌≡◌, ◌⊎◌, ◌<◌, ◌≤◌, ◌*◌, ◌++◌, ℕ, pos, true, false, [], nat_abs, take, Some, None, Ok, IfOk, IfSome, length};
-ghost use Rattle.form_frac.specs.Fraction.{is_zero as is_zero_number};
-ghost use Rattle.form_term.specs.declared.monomial.Monomial.{Monomial as Item};
-ghost use Rattle.form_term.specs.Term.{largest_exponent};
+ghost use Rattle.std.specs.Prelude.{◌≡◌, ◌≤◌, ◌*◌, ◌++◌, IfOk, IfSome, length};
 ghost use Rattle.form_term.specs.Term.{pieces_of_argument};
 ghost use Rattle.form_normal.specs.Product.{number_alone as number_alone_of};
 ghost use Rattle.form_expand.specs.Bound.{wild_list};
 ghost use Rattle.form_expand.specs.Calls.{AreCollected};
-ghost use Rattle.form_expand.specs.Closings.{closing_at};
-ghost use Rattle.form_expand.specs.declared.ended.Ended.{Ended};
 ghost use Rattle.form_expand.specs.Listing.{single};
 ghost use Rattle.form_expand.specs.Literals.{AreArgued, IsArgued, IsArguedWithin};
-ghost use Rattle.form_expand.specs.Lones.{term_of, argument_of, IsPresent, IsLone, IsLoneArgument, IsNoLone, IsNoLoneArgument};
-ghost use Rattle.form_expand.specs.Meanings.{number_bound};
-ghost use Rattle.form_expand.specs.NumberSums.{IsNoNumberArgument};
+ghost use Rattle.form_expand.specs.Lones.{term_of, argument_of, IsPresent, IsLone, IsLoneArgument};
 ghost use Rattle.form_expand.specs.Numbers.{number_list, symbol_list};
 ghost use Rattle.form_expand.specs.Reading.{list_of_pieces};
-ghost use Rattle.form_expand.specs.Stops.{StopsArgument, StopsArguments, StopsSum, StopsTerms, most_pieces};
 ghost use Rattle.form_expand.specs.Walks.{all_of};
 
 use crate::bound::bound_number;
@@ -41,8 +33,7 @@ pub fn literal_arguments(
     limit: u64,
     deeper: u64,
 ) -> Result<Option<Arguments>, AllocError>
-    ensures some { IfOk result (λ found. IfSome found (λ arguments. AreArgued limit names.now pieces.now arguments)) }
-    ensures none { result ≡ Ok None → StopsArguments limit names.now (StopsSum limit names.now deeper) pieces.now }
+    ensures { IfOk result (λ found. IfSome found (λ arguments. AreArgued limit names.now pieces.now arguments)) }
 {
     let mut arguments = Arguments::with_capacity(alloc, room_for(pieces))?;
     let mut rest = pieces;
@@ -83,8 +74,7 @@ fn read_one<'a>(
     limit: u64,
     deeper: u64,
 ) -> Result<Option<(Arguments, &'a [Piece])>, AllocError>
-    ensures some { IfOk result (λ found. IfSome found (λ read. IsArgued limit names.now pieces.now arguments read.0 read.1.now)) }
-    ensures none { result ≡ Ok None → 0 < length pieces.now → StopsArgument limit names.now (StopsSum limit names.now deeper) pieces.now }
+    ensures { IfOk result (λ found. IfSome found (λ read. IsArgued limit names.now pieces.now arguments read.0 read.1.now)) }
 {
     let Some((piece, more)) = pieces.split_first() else {
         return Ok(None);
@@ -123,8 +113,7 @@ fn lone_argument<'a>(
     pieces: &'a [Piece],
     limit: u64,
 ) -> Option<(Lone, &'a [Piece])>
-    ensures some { IfSome result (λ found. IsLoneArgument limit names.now pieces.now found.0 found.1.now) }
-    ensures none { result ≡ None → IsNoLoneArgument limit names.now pieces.now × IsNoNumberArgument limit names.now pieces.now }
+    ensures { IfSome result (λ found. IsLoneArgument limit names.now pieces.now found.0 found.1.now) }
 {
     if let Some(found) = one_piece(names, pieces, limit) {
         return Some(found);
@@ -137,8 +126,7 @@ fn lone_argument<'a>(
 
 /// The argument that these pieces begin with, where it is of one piece that isn't subtracted, and the pieces behind it.
 fn one_piece<'a>(names: &Standing, pieces: &'a [Piece], limit: u64) -> Option<(Lone, &'a [Piece])>
-    ensures some { IfSome result (λ found. IsLoneArgument limit names.now pieces.now found.0 found.1.now) }
-    ensures none { result ≡ None → IsNoLoneArgument limit names.now pieces.now }
+    ensures { IfSome result (λ found. IsLoneArgument limit names.now pieces.now found.0 found.1.now) }
 {
     if limit == 0 {
         return None;
@@ -163,8 +151,7 @@ fn one_piece<'a>(names: &Standing, pieces: &'a [Piece], limit: u64) -> Option<(L
 
 /// The term that a piece is alone.
 fn of_piece(names: &Standing, piece: &Piece) -> Option<Lone>
-    ensures some { IfSome result (λ lone. IsLone names.now piece.now lone) }
-    ensures none { result ≡ None → IsNoLone names.now piece.now }
+    ensures { IfSome result (λ lone. IsLone names.now piece.now lone) }
 {
     match piece {
         Piece::Number { value, power, .. } => of_value(value.get(), *power),
@@ -181,8 +168,7 @@ fn of_piece(names: &Standing, piece: &Piece) -> Option<Lone>
 
 /// A whole number to a power.
 fn of_value(value: u128, power: i32) -> Option<Lone>
-    ensures some { IfSome result (λ lone. (number_list value power ≡ single (term_of lone)) × IsPresent lone) }
-    ensures none { result ≡ None → (t : Item) → number_list value power ≡ single t → is_zero_number t.coefficient ≡ true }
+    ensures { IfSome result (λ lone. (number_list value power ≡ single (term_of lone)) × IsPresent lone) }
 {
     let Some(number) = number_alone(value, power) else {
         return None;
@@ -192,8 +178,7 @@ fn of_value(value: u128, power: i32) -> Option<Lone>
 
 /// A symbol to a power.
 fn of_symbol(symbol: Id, power: i32) -> Option<Lone>
-    ensures some { IfSome result (λ lone. (symbol_list symbol power ≡ single (term_of lone)) × IsPresent lone) }
-    ensures none { result ≡ None → 0 < nat_abs power → nat_abs power ≤ largest_exponent → ⊥ }
+    ensures { IfSome result (λ lone. (symbol_list symbol power ≡ single (term_of lone)) × IsPresent lone) }
 {
     let size = power.unsigned_abs();
     if size == 0 {
@@ -211,9 +196,7 @@ fn of_symbol(symbol: Id, power: i32) -> Option<Lone>
 
 /// A wildcard that stands for a number.
 fn of_wild(names: &Standing, symbol: Id, is_over: bool, power: i32) -> Option<Lone>
-    ensures some { IfSome result (λ lone. (wild_list names.now symbol is_over power ≡ (single (term_of lone), 1)) × IsPresent lone) }
-    ensures none { result ≡ None → is_over ≡ false → power ≡ pos 1
-        → (number_bound names.now symbol ≡ None) ⊎ ((t : Item) → wild_list names.now symbol is_over power ≡ (single t, 1) → is_zero_number t.coefficient ≡ true) }
+    ensures { IfSome result (λ lone. (wild_list names.now symbol is_over power ≡ (single (term_of lone), 1)) × IsPresent lone) }
 {
     let Some(number) = bound_number(names, symbol, is_over, power) else {
         return None;
@@ -223,8 +206,7 @@ fn of_wild(names: &Standing, symbol: Id, is_over: bool, power: i32) -> Option<Lo
 
 /// A number that isn't 0.
 fn of_number(number: Frac) -> Option<Lone>
-    ensures some { IfSome result (λ lone. (number_alone_of number ≡ term_of lone) × IsPresent lone) }
-    ensures none { result ≡ None → is_zero_number number ≡ true }
+    ensures { IfSome result (λ lone. (number_alone_of number ≡ term_of lone) × IsPresent lone) }
 {
     if number.is_zero() {
         return None;
@@ -243,8 +225,7 @@ fn read_sum<'a>(
     limit: u64,
     deeper: u64,
 ) -> Result<Option<(Arguments, &'a [Piece])>, AllocError>
-    ensures some { IfOk result (λ found. IfSome found (λ read. IsArguedWithin limit names.now pieces.now arguments read.0 read.1.now)) }
-    ensures none { result ≡ Ok None → (len : ℕ) (by : Ended) → closing_at 0 0 pieces.now ≡ Some (len, by) → StopsSum limit names.now deeper (take len pieces.now) }
+    ensures { IfOk result (λ found. IfSome found (λ read. IsArguedWithin limit names.now pieces.now arguments read.0 read.1.now)) }
 {
     let Some((len, _)) = closing(pieces) else {
         return Ok(None);
@@ -266,8 +247,7 @@ fn few_collected(
     limit: u64,
     deeper: u64,
 ) -> Result<Option<Vec<Monomial>>, AllocError>
-    ensures some { IfOk result (λ found. IfSome found (λ terms. AreCollected terms.items (list_of_pieces limit names.now pieces.now))) }
-    ensures none { result ≡ Ok None → StopsSum limit names.now deeper pieces.now }
+    ensures { IfOk result (λ found. IfSome found (λ terms. AreCollected terms.items (list_of_pieces limit names.now pieces.now))) }
 {
     laws::collected_lists();
     let Some(deeper) = deeper.checked_sub(1) else {
@@ -289,9 +269,7 @@ fn few_terms(
     limit: u64,
     deeper: u64,
 ) -> Result<Option<Vec<Monomial>>, AllocError>
-    ensures some { IfOk result (λ found. IfSome found (λ terms. list_of_pieces limit names.now pieces.now ≡ all_of terms.items)) }
-    ensures none { result ≡ Ok None → (most_pieces < length pieces.now) ⊎ StopsTerms limit names.now (StopsSum limit names.now deeper) [] pieces.now }
-    ensures few { IfOk result (λ found. IfSome found (λ terms. length pieces.now ≤ most_pieces)) }
+    ensures { IfOk result (λ found. IfSome found (λ terms. list_of_pieces limit names.now pieces.now ≡ all_of terms.items)) }
 {
     if pieces.len() > MOST_PIECES {
         return Ok(None);

@@ -1,9 +1,8 @@
 //! Sums of products each of which is one term, read at once.
-ghost use Rattle.std.specs.Prelude.{◌≡◌, ◌⊎◌, ◌≤◌, true, [], ◌∷◌, length, is_some, None, Ok, IfOk, IfSome};
+ghost use Rattle.std.specs.Prelude.{◌≡◌, ◌≤◌, IfOk, IfSome};
 ghost use Rattle.form_expand.specs.Kept.{listing};
 ghost use Rattle.form_expand.specs.Listing.{followed, limited, single};
 ghost use Rattle.form_expand.specs.Reading.{list_of_pieces};
-ghost use Rattle.form_expand.specs.Stops.{StopsList, StopsSum, StopsTerms, begun_at, deepest, most_pieces, products_within};
 ghost use Rattle.form_expand.specs.Walks.{all_of};
 
 use crate::literal::{DEEPEST, read_literal};
@@ -25,9 +24,7 @@ pub fn literal_sum(
     limit: u64,
     most: usize,
 ) -> Result<Option<Vec<Monomial>>, AllocError>
-    ensures some { IfOk result (λ found. IfSome found (λ terms. list_of_pieces limit names.now pieces.now ≡ all_of terms.items)) }
-    ensures none { result ≡ Ok None → (products_within most pieces.now ≡ None) ⊎ StopsTerms limit names.now (StopsSum limit names.now deepest) [] pieces.now }
-    ensures few { IfOk result (λ found. IfSome found (λ terms. is_some (products_within most pieces.now) ≡ true)) }
+    ensures { IfOk result (λ found. IfSome found (λ terms. list_of_pieces limit names.now pieces.now ≡ all_of terms.items)) }
 {
     let Some(count) = products(pieces, most) else {
         return Ok(None);
@@ -43,9 +40,7 @@ pub fn literal_list(
     pieces: &[Piece],
     limit: u64,
 ) -> Result<Option<Whole<'static>>, AllocError>
-    ensures some { IfOk result (λ found. IfSome found (λ whole. list_of_pieces limit names.now pieces.now ≡ listing whole)) }
-    ensures none { result ≡ Ok None → StopsList limit names.now pieces.now }
-    ensures few { IfOk result (λ found. IfSome found (λ whole. length pieces.now ≤ most_pieces)) }
+    ensures { IfOk result (λ found. IfSome found (λ whole. list_of_pieces limit names.now pieces.now ≡ listing whole)) }
 {
     if limit == 0 {
         return Ok(None);
@@ -71,8 +66,7 @@ fn list_behind(
     pieces: &[Piece],
     limit: u64,
 ) -> Result<Option<Whole<'static>>, AllocError>
-    ensures some { IfOk result (λ found. IfSome found (λ whole. limited limit (followed (single first) (list_of_pieces limit names.now pieces.now)) ≡ listing whole)) }
-    ensures none { result ≡ Ok None → StopsTerms limit names.now (StopsSum limit names.now deepest) (first ∷ []) pieces.now }
+    ensures { IfOk result (λ found. IfSome found (λ whole. limited limit (followed (single first) (list_of_pieces limit names.now pieces.now)) ≡ listing whole)) }
 {
     let mut terms = Vec::with_capacity(alloc, 2)?;
     terms.push(first)?;
@@ -93,8 +87,7 @@ pub fn literal_terms(
     limit: u64,
     deeper: u64,
 ) -> Result<Option<Vec<Monomial>>, AllocError>
-    ensures some { IfOk result (λ found. IfSome found (λ made. limited limit (followed (all_of terms.items) (list_of_pieces limit names.now pieces.now)) ≡ all_of made.items)) }
-    ensures none { result ≡ Ok None → StopsTerms limit names.now (StopsSum limit names.now deeper) terms.items pieces.now }
+    ensures { IfOk result (λ found. IfSome found (λ made. limited limit (followed (all_of terms.items) (list_of_pieces limit names.now pieces.now)) ≡ all_of made.items)) }
 {
     let mut made = terms;
     let mut rest = pieces;
@@ -114,7 +107,7 @@ pub fn literal_terms(
 /// How many products the sum of these pieces has; none where there are more than `most`, or a factor is neither a number nor
 /// a symbol.
 fn products(pieces: &[Piece], most: usize) -> Option<usize>
-    ensures { result ≡ products_within most pieces.now }
+    ensures { IfSome result (λ count. count ≤ most) }
 {
     let mut count = 0;
     for piece in pieces {
@@ -130,9 +123,7 @@ fn products(pieces: &[Piece], most: usize) -> Option<usize>
 }
 
 /// How many products a piece begins; none where it is neither a number nor a symbol.
-fn begun_by(piece: &Piece) -> Option<usize>
-    ensures { result ≡ begun_at piece.now }
-{
+fn begun_by(piece: &Piece) -> Option<usize> {
     match piece {
         Piece::Number { link, .. } | Piece::Symbol { link, .. } => {
             if *link == Link::Times {

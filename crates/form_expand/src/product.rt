@@ -1,5 +1,5 @@
-ghost use Rattle.std.specs.Prelude.{◌≡◌, ◌⊎◌, ◌++◌, ℕ, suc, true, [], ◌∷◌, Some, None, IfOk, OnOk, map, option_to_list};
-ghost use Rattle.form_expand.specs.Factors.{factor_left, factor_whole, is_once};
+ghost use Rattle.std.specs.Prelude.{◌≡◌, ◌⊎◌, ◌++◌, ℕ, suc, [], ◌∷◌, Some, None, IfOk, OnOk, map, option_to_list};
+ghost use Rattle.form_expand.specs.Factors.{factor_whole};
 ghost use Rattle.form_expand.specs.Left.{left_of_levels, row};
 ghost use Rattle.form_expand.specs.Listing.{nothing, powers};
 ghost use Rattle.form_expand.specs.Moving.{Lessens, Nears};
@@ -70,8 +70,7 @@ impl<'a> Level<'a> {
     /// Lets the term before it go where its factor is a list that is there as a whole, has no further term, and isn't refused
     /// behind the last, so that a long product keeps few of them.
     fn release(&mut self)
-        ensures same { (max : ℕ) → level_of max self.new ≡ level_of max self.old }
-        ensures let_go { is_once self.old.factor ≡ true → ((max : ℕ) → factor_left max self.old.factor ≡ nothing) → self.new.left ≡ None }
+        ensures { (max : ℕ) → level_of max self.new ≡ level_of max self.old }
     {
         if self.factor.is_spent() {
             self.left = None;

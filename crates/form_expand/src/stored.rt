@@ -3,7 +3,7 @@ ghost use Rattle.form_frac.specs.Fraction.{largest};
 ghost use Rattle.form_term.specs.Term.{AreArguments, pieces_of_arguments};
 ghost use Rattle.form_bindings.specs.Values.{IsValueOf, value_of as value_among};
 ghost use Rattle.form_expand.specs.Bound.{exponent_in};
-ghost use Rattle.form_expand.specs.Meanings.{of_stored, bound_to, terms_of as terms_meant, index_of, vector_of, component_of, function_of, field_of, expression_of, exponent_bound};
+ghost use Rattle.form_expand.specs.Meanings.{of_stored, bound_to, terms_of as terms_meant, index_of, vector_of, component_of, function_of, field_of, expression_of};
 ghost use Rattle.form_expand.specs.Stored.{Rise, terms_in};
 
 use crate::value::{expression_in, function_in, index_in, turned, vector_in, whole_number};

@@ -1,8 +1,8 @@
-ghost use Rattle.std.specs.Prelude.{◌≡◌, ◌↔◌, ℕ, true, IsTrue, OnOk, Some};
+ghost use Rattle.std.specs.Prelude.{◌≡◌, ◌↔◌, ℕ, IsTrue, OnOk, Some};
 ghost use Rattle.std.specs.Bool.{OnTrue};
 ghost use Rattle.form_expand.specs.Listing.{nothing};
 ghost use Rattle.form_expand.specs.Left.{times_by};
-ghost use Rattle.form_expand.specs.Next.{Gives, Goes};
+ghost use Rattle.form_expand.specs.Next.{Gives};
 ghost use Rattle.form_expand.specs.Walks.{HasOne, walk_left, walk_whole};
 
 use crate::ExpandError;
@@ -42,8 +42,7 @@ impl<'a> Walk<'a> {
 
     /// Whether it has no further term, and isn't refused behind the last.
     pub fn is_spent(&self) -> bool
-        ensures left { OnTrue result ((max : ℕ) → walk_left max self.now ≡ nothing) }
-        ensures exactly { ((max : ℕ) → walk_left max self.now ≡ nothing) → result ≡ true }
+        ensures { OnTrue result ((max : ℕ) → walk_left max self.now ≡ nothing) }
     {
         self.whole.end.is_none() && self.place >= self.whole.len()
     }

@@ -1,9 +1,9 @@
 use Rattle.std.proofs.Common.{◌≡◌, ◌+◌, ◌*◌, length}
 use Rattle.form_expand.specs.Listing.{limited, followed}
 use Rattle.form_expand.specs.Reading.{list_of_pieces}
-use Rattle.form_expand.specs.Stops.{StopsSum}
 use Rattle.form_expand.specs.Walks.{all_of}
-use Rattle.form_expand.proofs.Stopping.{AreReadTo, IsReadOnto, StopsOnto}
+use Rattle.form_expand.proofs.LiteralCalls.{AreArguedTo}
+use Rattle.form_expand.proofs.Literals.{IsReadTo}
 use Rattle.form_expand.proofs.+literal.Given as goal
 
 -- each call goes one function further, or into an argument
@@ -36,24 +36,21 @@ abbrev pub decreases-literal_arguments::few_collected : goal.decreases-literal_a
 decreases-literal_arguments::few_collected l = l.deeper * 9
 
 abbrev pub invariant-literal::read_literal-loop-piece : goal.invariant-literal::read_literal-loop-piece
-invariant-literal::read_literal-loop-piece l = IsReadOnto l.limit l.names (StopsSum l.limit l.names l.deeper) l.fn.pieces l.is_minus l.term l.rest
+invariant-literal::read_literal-loop-piece l = IsReadTo l.limit l.names l.fn.pieces l.is_minus l.term l.rest
 
 abbrev pub decreases-literal::read_literal-loop-piece : goal.decreases-literal::read_literal-loop-piece
 decreases-literal::read_literal-loop-piece l = length l.rest
 
 -- the arguments before are read
 abbrev pub invariant-literal_arguments::literal_arguments-loop-rest : goal.invariant-literal_arguments::literal_arguments-loop-rest
-invariant-literal_arguments::literal_arguments-loop-rest l = AreReadTo l.limit l.names (StopsSum l.limit l.names l.deeper) l.fn.pieces l.arguments l.rest
+invariant-literal_arguments::literal_arguments-loop-rest l = AreArguedTo l.limit l.names l.fn.pieces l.arguments l.rest
 
 abbrev pub decreases-literal_arguments::literal_arguments-loop-rest : goal.decreases-literal_arguments::literal_arguments-loop-rest
 decreases-literal_arguments::literal_arguments-loop-rest l = length l.rest
 
 -- the terms before are read
 abbrev pub invariant-literal_sum::literal_terms-loop-rest : goal.invariant-literal_sum::literal_terms-loop-rest
-invariant-literal_sum::literal_terms-loop-rest l = record {
-  read : limited l.limit (followed (all_of l.fn.terms.items) (list_of_pieces l.limit l.names l.fn.pieces)) ≡ limited l.limit (followed (all_of l.made.items) (list_of_pieces l.limit l.names l.rest));
-  stops : StopsOnto l.limit l.names (StopsSum l.limit l.names l.deeper) l.fn.pieces l.rest;
-}
+invariant-literal_sum::literal_terms-loop-rest l = limited l.limit (followed (all_of l.fn.terms.items) (list_of_pieces l.limit l.names l.fn.pieces)) ≡ limited l.limit (followed (all_of l.made.items) (list_of_pieces l.limit l.names l.rest))
 
 abbrev pub decreases-literal_sum::literal_terms-loop-rest : goal.decreases-literal_sum::literal_terms-loop-rest
 decreases-literal_sum::literal_terms-loop-rest l = length l.rest

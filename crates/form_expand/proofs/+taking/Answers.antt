@@ -61,7 +61,7 @@ product::Level::take-returns-clause-next t c =
     let l = c.args.self.now in
     let gave = rw c.in-Some.is at c.in_ok-term.ensures.next in
     let new = level_of max (record { factor = c.next_times.new.self; left = l.left; count = l.count + 1 }) in
-    subst (λ (s : Level). Takes max (Ok (Some c.in-Some.term)) (level_of max l) s) (sym (c.release.ensures.same max))
+    subst (λ (s : Level). Takes max (Ok (Some c.in-Some.term)) (level_of max l) s) (sym (c.release.ensures max))
     (takes_one_to max (level_of max l) c.in-Some.term new (omega arith) gave refl c.in_ok-term.ensures.whole)
 
 pub product::Level::take-returns-clause-fewer : goal.product::Level::take-returns-clause-fewer
@@ -70,7 +70,7 @@ product::Level::take-returns-clause-fewer t c =
     let l = c.args.self.now in
     let gave = rw c.in-Some.is at c.in_ok-term.ensures.next in
     let new = level_of max (record { factor = c.next_times.new.self; left = l.left; count = l.count + 1 }) in
-    subst (λ (s : Level). Lessens (Ok (Some c.in-Some.term)) (level_of max l).opened s.opened) (sym (c.release.ensures.same max))
+    subst (λ (s : Level). Lessens (Ok (Some c.in-Some.term)) (level_of max l).opened s.opened) (sym (c.release.ensures max))
     (lessens_given (Ok (Some c.in-Some.term)) (level_of max l).opened new.opened gave)
 
 pub product::Product::step-returns-in_default-pop-clause-next : goal.product::Product::step-returns-in_default-pop-clause-next

@@ -6,7 +6,7 @@ use Rattle.form_expand.proofs.Behind.{limited_pieces}
 use Rattle.form_expand.proofs.expansion.list_of.Goals as goal
 
 pub returns-in-Some : goal.returns-in-Some
-returns-in-Some c = sym (rw c.in-Some.is at c.in_ok-whole.ensures.some)
+returns-in-Some c = sym (rw c.in-Some.is at c.in_ok-whole.ensures)
 
 pub returns : goal.returns
 returns c =

@@ -1,4 +1,4 @@
 use Rattle.form_expand.proofs.literal_arguments.lone_argument.Goals as goal
 
-pub returns-in-Some-number_sum-clause-some : goal.returns-in-Some-number_sum-clause-some
-returns-in-Some-number_sum-clause-some c = record { present = c.in-Some-number_sum.ensures.some.present; read = c.in-Some-number_sum.ensures.some.read }
+pub returns-in-Some-number_sum : goal.returns-in-Some-number_sum
+returns-in-Some-number_sum c = record { present = c.in-Some-number_sum.ensures.present; read = c.in-Some-number_sum.ensures.read }

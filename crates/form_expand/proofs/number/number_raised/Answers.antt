@@ -1,44 +1,17 @@
 use Rattle.std.proofs.Common.{◌∙◌, ap, sym, arith, w32}
 use Rattle.std.proofs.lemmas.Int.{to_z-of_z}
-use Rattle.form_frac.specs.declared.frac_error.FracError.TheVariants.{Overflow}
 use Rattle.form_normal.specs.Product.{number_alone}
 use Rattle.form_expand.specs.Listing.{single}
-use Rattle.form_expand.proofs.NumberLists.{number_is_alone, number_is_zero, number_of_none, number_overflows, number_past, number_unmade, ok_from, some_from}
+use Rattle.form_expand.proofs.NumberLists.{number_is_alone, number_of_none, ok_from, some_from}
 use Rattle.form_expand.proofs.number.number_raised.Goals as goal
 
-pub returns-then-size-eq0-clause-some : goal.returns-then-size-eq0-clause-some
-returns-then-size-eq0-clause-some c =
+pub returns-then-size-eq0 : goal.returns-then-size-eq0
+returns-then-size-eq0 c =
     let size = rw (to_z-of_z w32 c.args.power c.ranges.power) at c.unsigned_abs-size.ensures.value in
     (number_of_none c.args.value c.args.power (omega (arith, size)) ∙ ap (λ q. single (number_alone q)) (sym c.one.ensures.one), c.one.ensures.lowest)
 
-pub returns-then-value-gt-LARGEST-clause-none : goal.returns-then-value-gt-LARGEST-clause-none
-returns-then-value-gt-LARGEST-clause-none c =
-    let size = rw (to_z-of_z w32 c.args.power c.ranges.power) at c.unsigned_abs-size.ensures.value in
-    λ none. number_past c.args.value c.args.power (omega (arith, size)) c.if-value-gt-LARGEST.true
-
-pub returns-in_err-base-clause-none : goal.returns-in_err-base-clause-none
-returns-in_err-base-clause-none c =
-    let size = rw (to_z-of_z w32 c.args.power c.ranges.power) at c.unsigned_abs-size.ensures.value in
-    let made = rw (to_z-of_z w32 c.args.power c.ranges.power) at c.factor_of.ensures in
-    λ none. number_unmade c.args.value c.args.power c.factor_of.result (omega (arith, size)) c.if-value-gt-LARGEST.false made (sym c.in_err-base.ensures.value)
-
-pub returns-then-is_zero-clause-none : goal.returns-then-is_zero-clause-none
-returns-then-is_zero-clause-none c =
-    let size = rw (to_z-of_z w32 c.args.power c.ranges.power) at c.unsigned_abs-size.ensures.value in
-    let made = rw (to_z-of_z w32 c.args.power c.ranges.power) at c.factor_of.ensures in
-    let base = ok_from c.factor_of.result c.in_ok-base.base c.in_ok-base.ensures.value in
-    λ none. number_is_zero c.args.value c.args.power c.in_ok-base.base (omega (arith, size)) c.if-value-gt-LARGEST.false (sym base ∙ made) (sym c.if-is_zero.ensures)
-
-pub returns-in_err-number-clause-none : goal.returns-in_err-number-clause-none
-returns-in_err-number-clause-none c =
-    let size = rw (to_z-of_z w32 c.args.power c.ranges.power) at c.unsigned_abs-size.ensures.value in
-    let made = rw (to_z-of_z w32 c.args.power c.ranges.power) at c.factor_of.ensures in
-    let base = ok_from c.factor_of.result c.in_ok-base.base c.in_ok-base.ensures.value in
-    let raised = rw size at c.raised.ensures in
-    λ none. number_overflows c.args.value c.args.power c.in_ok-base.base Overflow c.raised.result (omega (arith, size)) c.if-value-gt-LARGEST.false (sym base ∙ made) (sym c.if-is_zero.ensures) raised (sym c.in_err-number.ensures.value)
-
-pub returns-clause-some : goal.returns-clause-some
-returns-clause-some c =
+pub returns : goal.returns
+returns c =
     let size = rw (to_z-of_z w32 c.args.power c.ranges.power) at c.unsigned_abs-size.ensures.value in
     let made = rw (to_z-of_z w32 c.args.power c.ranges.power) at c.factor_of.ensures in
     let base = ok_from c.factor_of.result c.in_ok-base.base c.in_ok-base.ensures.value in

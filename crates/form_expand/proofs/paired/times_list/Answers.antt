@@ -13,4 +13,4 @@ pub returns-in-Same : goal.returns-in-Same
 returns-in-Same c =
     let max = c.args.limit in
     let list = list_of_pieces max c.args.names.now c.args.right.now in
-    subst (λ (m : Monomial). IfOk c.times_whole.result (λ paired. IsPaired (row max (single m ∷ list ∷ [])) paired)) (rw c.in-Same.is at c.in_ok-item.ensures).0 c.times_whole.ensures
+    subst (λ (m : Monomial). IfOk c.times_whole.result (λ paired. IsPaired (row max (single m ∷ list ∷ [])) paired)) (rw c.in-Same.is at c.in_ok-item.ensures) c.times_whole.ensures

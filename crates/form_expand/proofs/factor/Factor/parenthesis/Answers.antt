@@ -8,6 +8,6 @@ returns-then-power-eq0 c = rw (c.if-power-eq0.true, c.new.ensures) (ap (limited 
 
 pub returns-in-Some : goal.returns-in-Some
 returns-in-Some c =
-    let list = rw c.in-Some.is at c.in_ok-terms.ensures.some in
+    let list = rw c.in-Some.is at c.in_ok-terms.ensures in
     c.in_ok-new.ensures.list
     ∙ ap (λ l. powers c.args.limit l c.args.power) (c.made.ensures ∙ sym list)

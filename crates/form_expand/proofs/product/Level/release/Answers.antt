@@ -6,8 +6,8 @@ use Rattle.form_expand.specs.Listing.{Listing}
 use Rattle.form_expand.proofs.Taking.{times_by_end}
 use Rattle.form_expand.proofs.product.Level.release.Goals as goal
 
-pub returns-then-is_spent-clause-same : goal.returns-then-is_spent-clause-same
-returns-then-is_spent-clause-same c = λ max.
+pub returns-then-is_spent : goal.returns-then-is_spent
+returns-then-is_spent c = λ max.
     let l = c.args.self.now in
-    let none = c.if-is_spent.ensures.left max in
+    let none = c.if-is_spent.ensures max in
     ap (λ (o : Listing). record { count = l.count; list = factor_whole max l.factor; opened = o }) (none ∙ sym (ap (times_by l.left) none ∙ times_by_end l.left None))

@@ -8,5 +8,5 @@ unfolding stream_left stream_before
 returns-clause-found c =
     let s = c.args.self.now in
     let literal = c.in-Some.literal in
-    let h = rw c.in-Some.is at c.in_ok-read.ensures.some in
+    let h = rw c.in-Some.is at c.in_ok-read.ensures in
     stream_literal s.limit s.given s.stored.now s.rest.now c.in-Some.rest.now literal s.is_minus (product_left s.limit s.product) h c.requires.done
