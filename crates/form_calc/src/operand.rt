@@ -8,7 +8,7 @@ use crate::Number;
 use crate::number::{with_digit, with_digit_below, zero};
 
 /// How two operands are compared.
-#[derive(Clone, Copy, Debug, PartialEq, Eq)]
+#[derive(Clone, Copy)]
 pub enum Comparison {
     Equal,
     Unequal,

@@ -8,7 +8,7 @@ use crate::blanks::after_blanks;
 use crate::number::{difference, product, quotient, remainder, sum};
 
 /// What is done with the next factor of a product.
-#[derive(Clone, Copy, Debug, PartialEq, Eq)]
+#[derive(Clone, Copy)]
 pub enum Operator {
     Times,
     Over,

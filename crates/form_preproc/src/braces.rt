@@ -15,7 +15,7 @@ use std::alloc::{AllocError, Global};
 use std::mem;
 
 /// A line that is read up to a place.
-#[derive(Debug, Drop)]
+#[derive(Drop)]
 pub struct Braces {
     /// What stands before the braces that are read.
     done: Text,

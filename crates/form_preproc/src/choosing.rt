@@ -192,7 +192,7 @@ impl Machine {
 }
 
 /// What a part of a block is.
-#[derive(Clone, Copy, Debug)]
+#[derive(Clone, Copy)]
 pub enum Part {
     /// The block's end.
     Over,

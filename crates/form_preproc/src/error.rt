@@ -2,7 +2,7 @@ use form_base::Cause;
 use std::alloc::{AllocError, AllocFailed};
 
 /// Why a line can't act.
-#[derive(Debug, Drop)]
+#[derive(Drop)]
 pub enum LineError {
     /// It is refused for this cause.
     Refused(Cause),
@@ -46,7 +46,7 @@ impl From<PartError> for LineError {
 }
 
 /// Why what is written can't be read.
-#[derive(Debug, Drop)]
+#[derive(Drop)]
 pub enum PartError {
     /// It is out of its form.
     IllFormed,

@@ -20,7 +20,7 @@ use std::alloc::{AllocError, Global};
 use std::rc::Rc;
 
 /// What one step has done.
-#[derive(Clone, Copy, Debug)]
+#[derive(Clone, Copy)]
 pub enum Step {
     /// More is to be done.
     Goes,

@@ -18,7 +18,7 @@ use form_calc::{Row, Text};
 use std::alloc::Global;
 
 /// A name and what stands in the parentheses behind it.
-#[derive(Debug, Drop)]
+#[derive(Drop)]
 pub struct Head {
     pub name: Text,
     pub parts: Row<Text>,

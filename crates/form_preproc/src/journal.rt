@@ -7,7 +7,7 @@ use form_calc::Stack;
 use std::alloc::{AllocError, Global};
 
 /// A stack before it was changed.
-#[derive(Clone, Copy, Debug, PartialEq, Eq)]
+#[derive(Clone, Copy)]
 pub struct Change {
     pub place: usize,
     /// How many values it had.

@@ -8,7 +8,7 @@ ghost use Rattle.form_preproc.specs.Key as key;
 use crate::bytes::after_blanks;
 
 /// The kind of a line.
-#[derive(Clone, Copy, Debug, PartialEq, Eq)]
+#[derive(Clone, Copy)]
 pub enum Key {
     /// No instruction.
     Plain,

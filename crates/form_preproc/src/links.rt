@@ -10,7 +10,7 @@ use form_calc::{Row, Stack};
 use std::alloc::{AllocError, Global};
 
 /// Where the block that is open behind a line goes on and ends: places in the list of lines, its length where it doesn't.
-#[derive(Clone, Copy, Debug, PartialEq, Eq)]
+#[derive(Clone, Copy)]
 pub struct Link {
     /// The first line at which it ends or a further part of it begins.
     pub closer: usize,

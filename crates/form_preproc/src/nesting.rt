@@ -15,7 +15,7 @@ use std::alloc::{AllocError, Global};
 const MOST_BLOCKS: usize = 64;
 
 /// What a block is.
-#[derive(Clone, Copy, Debug)]
+#[derive(Clone, Copy)]
 pub enum Kind {
     Loop,
     Choice,
@@ -23,7 +23,7 @@ pub enum Kind {
 }
 
 /// A block that is open.
-#[derive(Clone, Copy, Debug)]
+#[derive(Clone, Copy)]
 pub struct Open {
     pub kind: Kind,
     /// Whether its last part, that of `#else`, has begun.
@@ -86,7 +86,7 @@ impl Key {
 }
 
 /// What ends a check of nesting.
-#[derive(Debug, Drop)]
+#[derive(Drop)]
 pub enum Nesting {
     /// A line can't stand where it does.
     Bad,

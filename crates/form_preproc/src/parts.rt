@@ -11,7 +11,7 @@ use std::alloc::{AllocError, Global};
 use std::mem;
 
 /// What parts a text.
-#[derive(Clone, Copy, Debug, PartialEq, Eq)]
+#[derive(Clone, Copy)]
 pub enum Parting {
     /// Commas outside brackets.
     Arguments,
@@ -20,7 +20,7 @@ pub enum Parting {
 }
 
 /// A list that is read up to a place.
-#[derive(Debug, Drop)]
+#[derive(Drop)]
 pub struct Parts {
     parting: Parting,
     /// The brackets that are to end those that are open, the innermost first.

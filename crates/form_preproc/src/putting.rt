@@ -20,7 +20,7 @@ use std::mem;
 pub const MOST_BYTES: usize = 1_048_576;
 
 /// A line that is read up to a place.
-#[derive(Debug, Drop)]
+#[derive(Drop)]
 pub struct Putting {
     /// What stands outside the names that are open, the innermost first.
     outer: Stack<Text>,

@@ -16,7 +16,7 @@ use form_lines::{Line, LinesError, lines_of};
 use std::alloc::{AllocError, Global};
 
 /// A line with its kind.
-#[derive(Debug, Drop)]
+#[derive(Drop)]
 pub struct SourceLine {
     line: Line,
     key: Key,
@@ -55,7 +55,7 @@ impl SourceLine {
 }
 
 /// The lines of a text, nested into blocks.
-#[derive(Debug, Drop)]
+#[derive(Drop)]
 pub struct Source {
     name: Name,
     number: u32,
@@ -65,7 +65,7 @@ pub struct Source {
 }
 
 /// Why a text can't be taken up.
-#[derive(Debug, Drop)]
+#[derive(Drop)]
 pub enum SourceError {
     /// It is refused for this cause at this line.
     Refused(Cause, u32),

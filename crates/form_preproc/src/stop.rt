@@ -10,7 +10,7 @@ use form_base::{Cause, Name};
 use std::alloc::{AllocError, Global};
 
 /// Why a line stops all.
-#[derive(Debug, Drop)]
+#[derive(Drop)]
 pub enum StopError {
     /// It is refused for this cause at this line of the text of that name.
     Refused(Cause, Name, u32),
@@ -51,7 +51,7 @@ pub fn stop_of(alloc: Global, source: &Source, line: u32, error: LineError) -> S
 }
 
 /// Why expansion stops.
-#[derive(Debug, Drop)]
+#[derive(Drop)]
 pub enum ExpandError {
     Stopped(StopError),
     /// The library failed.

@@ -12,7 +12,7 @@ use form_calc::{Number, Row, Stack, Text, number_of};
 use std::alloc::{AllocError, Global};
 
 /// The values that are left.
-#[derive(Debug, Drop)]
+#[derive(Drop)]
 pub struct Turns {
     texts: Stack<Text>,
     /// Whether they are numbers and no texts.
@@ -23,7 +23,7 @@ pub struct Turns {
 }
 
 /// A loop's variable and its values.
-#[derive(Debug, Drop)]
+#[derive(Drop)]
 pub struct Looped {
     pub name: Text,
     pub turns: Turns,
