@@ -9,6 +9,7 @@ ghost use Rattle.form_preproc.specs.Instruction as instruction;
 ghost use Rattle.form_preproc.specs.Kept.{kept_in};
 ghost use Rattle.form_preproc.specs.PlainTexts.{ArePlain};
 ghost use Rattle.form_preproc.specs.Plainness.{MachineIsPlain, IsPlainAction};
+ghost use Rattle.form_preproc.specs.Stops.{IsStopIn};
 ghost use Rattle.form_preproc.specs.Variables.{first_heights, other_calls};
 
 use crate::bytes::trimmed;
@@ -108,6 +109,16 @@ impl Machine {
     }
 }
 
+/// The refusal of a line of the text of this name.
+fn refused_in(alloc: Global, name: &[u8], cause: Cause, line: u32) -> StopError
+    ensures { IsStopIn name.now cause line result }
+{
+    match name_of(alloc, name) {
+        Ok(name) => StopError::Refused(cause, name, line),
+        Err(_) => StopError::Memory,
+    }
+}
+
 impl Machine {
     ghost use Rattle.form_preproc.specs.Machine.{state_of, calls_of, line_of, site_place, IsDone, IsDoneOver, AreKept, AreKeptOver, IsFetchedText, IsTakenText};
 
@@ -124,11 +135,7 @@ impl Machine {
         self.names.push(name_of(alloc, name)?)?;
         match Source::take_up(alloc, name_of(alloc, name)?, number, bytes) {
             Ok(source) => Ok(source),
-            Err(SourceError::Refused(cause, line)) => Err(StopError::Refused(
-                cause,
-                name_of(alloc, name)?,
-                line,
-            )),
+            Err(SourceError::Refused(cause, line)) => Err(refused_in(alloc, name, cause, line)),
             Err(SourceError::NoMemory) => Err(StopError::Memory),
         }
     }
