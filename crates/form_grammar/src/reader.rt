@@ -335,18 +335,17 @@ impl Reader {
         ensures { Gives (λ _. reading_of self.new) result (applied (reading_of self.old) effect) }
     {
         match effect {
-            Effect::Waits(expected) => self.expected = expected,
-            Effect::Adds(piece, expected) => self.add_slowly(piece, expected)?,
-            Effect::Changes(change, expected) => self.change_last(change, expected)?,
-            Effect::Opens(link) => self.open(link)?,
-            Effect::Encloses(expected) => self.enclose(expected)?,
-            Effect::Calls(is_marked) => self.call(is_marked)?,
-            Effect::Closes => self.close()?,
-            Effect::Parts => self.part()?,
-            Effect::Dots(is_marked) => self.dot(is_marked)?,
-            Effect::Fails => return Err(ReadError::BadSyntax),
+            Effect::Waits(expected) => self.wait(expected),
+            Effect::Adds(piece, expected) => self.add_slowly(piece, expected),
+            Effect::Changes(change, expected) => self.change_last(change, expected),
+            Effect::Opens(link) => self.open(link),
+            Effect::Encloses(expected) => self.enclose(expected),
+            Effect::Calls(is_marked) => self.call(is_marked),
+            Effect::Closes => self.close(),
+            Effect::Parts => self.part(),
+            Effect::Dots(is_marked) => self.dot(is_marked),
+            Effect::Fails => Err(ReadError::BadSyntax),
         }
-        Ok(())
     }
 
     /// Goes one terminal further.

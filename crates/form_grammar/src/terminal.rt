@@ -7,7 +7,7 @@ use form_lexer::{BuiltIn, Mark, Token, TokenKind};
 use form_number::Number;
 
 /// A token as the grammar sees it, without the spots of marks. `i_` and `d_` stand in right sides alone.
-#[derive(Debug, Drop)]
+#[derive(Drop)]
 pub enum Terminal {
     Number(Number),
     Name(Spelled),
