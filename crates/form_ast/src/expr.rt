@@ -13,7 +13,7 @@ pub enum Sign {
 }
 
 /// How a factor stands to what is before it.
-#[derive(Clone, Copy, Debug, PartialEq, Eq)]
+#[derive(Clone, Copy, PartialEq, Eq)]
 pub enum Link {
     /// It begins a sum, without a sign.
     First,
@@ -24,14 +24,14 @@ pub enum Link {
 }
 
 /// A written name.
-#[derive(Debug, Drop, PartialEq, Eq)]
+#[derive(Debug, Drop)]
 pub struct Spelled {
     pub name: Name,
     pub spot: Spot,
 }
 
 /// A name as a right side or a pattern has it.
-#[derive(Debug, Drop, PartialEq, Eq)]
+#[derive(Drop)]
 pub enum Named {
     /// A name that a program declares.
     Declared(Spelled),
@@ -40,14 +40,14 @@ pub enum Named {
 }
 
 /// A written number with its sign, where it has one.
-#[derive(Debug, Drop)]
+#[derive(Drop)]
 pub struct SignedNumber {
     pub sign: Option<Sign>,
     pub number: Number,
 }
 
 /// What a wildcard may stand for, as it is written behind its mark.
-#[derive(Debug, Drop)]
+#[derive(Drop)]
 pub enum Restriction {
     /// Nothing is written.
     Any,
@@ -60,7 +60,7 @@ pub enum Restriction {
 }
 
 /// A written power: a number with a sign or none, in parentheses or without.
-#[derive(Debug, Drop)]
+#[derive(Drop)]
 pub struct Power {
     pub is_parenthesized: bool,
     pub sign: Option<Sign>,
@@ -69,7 +69,7 @@ pub struct Power {
 
 /// A piece of a right side or of a pattern. It has 48 bytes, since a right side may have millions: what is large is a
 /// piece of its own.
-#[derive(Debug, Drop)]
+#[derive(Drop)]
 pub enum Piece {
     /// A number as a factor.
     Number(Link, Number),
@@ -112,7 +112,7 @@ const _: () = prove!(size_of::<Piece>() == 48);
 
 /// A right side or a pattern as it is written, flat, so that it is read, walked and dropped without recursion however deep it is: in
 /// a clause the list of its pieces in the order of the text.
-#[derive(Debug, Drop)]
+#[derive(Drop)]
 pub struct Expr {
     pieces: Vec<Piece>,
 }

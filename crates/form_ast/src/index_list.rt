@@ -5,21 +5,21 @@ use form_number::Number;
 use std::marker::Model;
 
 /// A written dimension.
-#[derive(Debug, Drop)]
+#[derive(Drop)]
 pub enum Dimension {
     Number(Number),
     Name(Spelled),
 }
 
 /// An index that is declared, and its dimension where one is written.
-#[derive(Debug, Drop)]
+#[derive(Drop)]
 pub struct SpelledIndex {
     pub name: Spelled,
     pub dimension: Option<Dimension>,
 }
 
 /// The indices that a statement declares, in a clause their list.
-#[derive(Debug, Drop)]
+#[derive(Drop)]
 pub struct IndexList {
     indices: Vec<SpelledIndex>,
 }

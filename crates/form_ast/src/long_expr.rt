@@ -6,7 +6,7 @@ use std::marker::Model;
 
 /// A right side, as `Expr` is one, in parts: a right side may have millions of pieces, and so each part can be dropped
 /// as soon as it is walked, and its memory be used again. In a clause the list of its pieces in the order of the text.
-#[derive(Debug, Drop)]
+#[derive(Drop)]
 pub struct LongExpr {
     parts: Vec<Expr>,
 }

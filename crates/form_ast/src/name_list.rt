@@ -4,7 +4,7 @@ use crate::Spelled;
 use std::marker::Model;
 
 /// The names of a statement, in a clause their list.
-#[derive(Debug, Drop)]
+#[derive(Drop)]
 pub struct NameList {
     names: Vec<Spelled>,
 }

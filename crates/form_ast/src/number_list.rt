@@ -4,7 +4,7 @@ use crate::SignedNumber;
 use std::marker::Model;
 
 /// Whole numbers with their signs, in a clause their list.
-#[derive(Debug, Drop)]
+#[derive(Drop)]
 pub struct NumberList {
     numbers: Vec<SignedNumber>,
 }

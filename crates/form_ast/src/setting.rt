@@ -1,5 +1,5 @@
 /// Where a sum stands: this says what may be written in it.
-#[derive(Clone, Copy, Debug, PartialEq, Eq)]
+#[derive(Clone, Copy, PartialEq, Eq)]
 pub enum Setting {
     /// It is the right side of a definition.
     Plain,

@@ -16,14 +16,14 @@ pub enum Declared {
 }
 
 /// The elements of a set, at least one: names, or whole numbers with their signs.
-#[derive(Debug, Drop)]
+#[derive(Drop)]
 pub enum WrittenElements {
     Names(NameList),
     Numbers(NumberList),
 }
 
 /// An `id` or an `also`.
-#[derive(Debug, Drop)]
+#[derive(Drop)]
 pub struct Rewrite {
     pub is_also: bool,
     /// Its option, where one is written.
@@ -33,7 +33,7 @@ pub struct Rewrite {
 }
 
 /// A statement as it is written. No names at `Drop`, `Skip` and `Print` means all expressions.
-#[derive(Debug, Drop)]
+#[derive(Drop)]
 pub enum Statement {
     /// Names that are declared, other than indices.
     Names(Declared, NameList),
@@ -52,7 +52,7 @@ pub enum Statement {
 }
 
 /// A statement, and where its first token stands.
-#[derive(Debug, Drop)]
+#[derive(Drop)]
 pub struct Placed {
     pub spot: Spot,
     pub statement: Statement,
@@ -60,7 +60,7 @@ pub struct Placed {
 
 /// What stands up to a module instruction: in a clause the list of its statements, in the order of the text. Empty
 /// statements are left out.
-#[derive(Debug, Drop)]
+#[derive(Drop)]
 pub struct Module {
     statements: Vec<Placed>,
 }

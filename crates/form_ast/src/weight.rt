@@ -3,7 +3,7 @@ use form_number::WholeNumber;
 
 /// What is joined with factors of the same key: a name alone, or a dot product of two, in either order. A wildcard is
 /// joined with wildcards alone.
-#[derive(Debug, Drop)]
+#[derive(Drop)]
 pub enum Key {
     /// How it is spelled, and whether it is a wildcard.
     Alone(Name, bool),
@@ -12,7 +12,7 @@ pub enum Key {
 }
 
 /// A factor of a pattern as it counts where equal factors are joined.
-#[derive(Debug, Drop)]
+#[derive(Drop)]
 pub enum Weight {
     /// What may be joined, whether its power is below zero, and the size of this.
     Keyed(Key, bool, WholeNumber),

@@ -6,14 +6,14 @@ use std::fmt;
 use std::marker::Model;
 
 /// A text as it is kept: most names are so short that they need no memory of their own.
-#[derive(Debug, Drop)]
+#[derive(Drop)]
 enum Text {
     Short(ArrayString<8>),
     Long(Box<String>),
 }
 
 /// The name of a text, of an expression or of anything else that an answer speaks of: text, in a clause its bytes.
-#[derive(Debug, Drop)]
+#[derive(Drop)]
 pub struct Name {
     text: Text,
 }
@@ -77,6 +77,12 @@ impl Eq for Name {
     ghost use Rattle.std.specs.Cmp.Lexicographic.{nat_list_eq_equiv};
 
     ghost laws = { nat_list_eq_equiv };
+}
+
+impl fmt::Debug for Name {
+    fn fmt<W: fmt::Write>(&self, f: &mut fmt::Formatter<W>) -> fmt::Result {
+        f.write_str(self.as_str())
+    }
 }
 
 impl fmt::Display for Name {

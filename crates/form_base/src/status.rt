@@ -4,7 +4,7 @@ use crate::{Cause, Name, Place};
 use std::fmt;
 
 /// How a call of `tform` ended.
-#[derive(Debug, Drop, PartialEq, Eq)]
+#[derive(Drop)]
 pub enum Status {
     /// The text was read to its `.end` and every module was carried out.
     Done,
@@ -71,8 +71,9 @@ impl fmt::Display for Status {
             Status::Usage => f.write_str("error: usage"),
             Status::Missing(name) => write!(f, "error: missing {name}"),
             Status::TextTooLong(name) => write!(f, "error: text too long {name}"),
-            Status::RefusedText(cause, place) => write!(f, "error: {place}: {cause}"),
-            Status::RefusedRun(cause, place) => write!(f, "error: {place}: {cause}"),
+            Status::RefusedText(cause, place) | Status::RefusedRun(cause, place) => {
+                write!(f, "error: {place}: {cause}")
+            }
             Status::LibraryFault => f.write_str("tform: library fault"),
             Status::SinkFault => f.write_str("tform: output fault"),
             Status::StoreFault(store) => write!(f, "tform: store fault {store}"),

@@ -1,5 +1,5 @@
 /// A sign of the language.
-#[derive(Clone, Copy, Debug, PartialEq, Eq)]
+#[derive(Clone, Copy)]
 pub enum Mark {
     /// `&&`
     And,
@@ -50,7 +50,7 @@ pub enum Mark {
 }
 
 /// A name that the language itself gives.
-#[derive(Clone, Copy, Debug, PartialEq, Eq)]
+#[derive(Clone, Copy)]
 pub enum BuiltIn {
     /// `i_`, the imaginary unit.
     Imaginary,

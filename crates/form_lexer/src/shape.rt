@@ -8,7 +8,7 @@ ghost use Rattle.form_lexer.specs.Reading.{front, double_mark as double_mark_of,
 use crate::{BuiltIn, Mark};
 
 /// What a token is, before its name or its number is read.
-#[derive(Clone, Copy, Debug, PartialEq, Eq)]
+#[derive(Clone, Copy)]
 pub enum Shape {
     Number,
     Name,

@@ -3,7 +3,7 @@ use form_base::{Name, Spot};
 use form_number::WholeNumber;
 
 /// What a token is.
-#[derive(Debug, Drop)]
+#[derive(Drop)]
 pub enum TokenKind {
     /// Digits, as their value.
     Number(WholeNumber),
@@ -17,7 +17,7 @@ pub enum TokenKind {
 }
 
 /// A token and where it stands.
-#[derive(Debug, Drop)]
+#[derive(Drop)]
 pub struct Token {
     pub kind: TokenKind,
     pub spot: Spot,

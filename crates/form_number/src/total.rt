@@ -9,7 +9,7 @@ use std::alloc::{AllocError, Global};
 use std::marker::Model;
 
 /// A sum of whole numbers, kept by its digits, the lowest first: in a clause its value.
-#[derive(Debug, Drop)]
+#[derive(Drop)]
 pub struct Total {
     digits: Vec<u8>,
 }

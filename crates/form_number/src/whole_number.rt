@@ -6,7 +6,7 @@ use std::alloc::{AllocError, Global};
 use std::marker::Model;
 
 /// How a number is kept: a short one takes no memory of its own.
-#[derive(Debug, Drop)]
+#[derive(Drop)]
 pub(crate) enum Held {
     /// One below 2^127, by its value.
     Small(u128),
@@ -15,7 +15,7 @@ pub(crate) enum Held {
 }
 
 /// A whole number of any size: in a clause its value.
-#[derive(Debug, Drop)]
+#[derive(Drop)]
 pub struct WholeNumber {
     pub(crate) held: Held,
 }

@@ -3,7 +3,7 @@ use form_base::{Name, Settings};
 use std::alloc::AllocError;
 
 /// What a command line asks for.
-#[derive(Debug, Drop)]
+#[derive(Drop)]
 pub struct Job {
     pub settings: Settings,
     /// The text that is to be run, by its name in the library.
