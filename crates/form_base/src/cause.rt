@@ -4,7 +4,7 @@ use crate::Name;
 use std::fmt;
 
 /// Why a text or a run is refused. It prints as the variant's name, and behind it the name concerned, where it has one.
-#[derive(Debug, Drop)]
+#[derive(Debug, Drop, PartialEq, Eq)]
 pub enum Cause {
     // Of a text.
     /// A byte that isn't a tab or from 32 to 126.

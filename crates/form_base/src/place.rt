@@ -4,7 +4,7 @@ use crate::Name;
 use std::fmt;
 
 /// Where a refusal stands.
-#[derive(Drop)]
+#[derive(Debug, Drop, PartialEq, Eq)]
 pub enum Place {
     /// The name under which the library was asked for the text, and the physical line in it, from 1.
     Line(Name, u64),

@@ -4,7 +4,7 @@ use crate::{Cause, Name, Place};
 use std::fmt;
 
 /// How a call of `tform` ended.
-#[derive(Drop)]
+#[derive(Debug, Drop, PartialEq, Eq)]
 pub enum Status {
     /// The text was read to its `.end` and every module was carried out.
     Done,
