@@ -13,10 +13,10 @@ use Rattle.form_match.specs.declared.uses.Use.{Use}
 use Rattle.form_match.specs.declared.uses.Use.TheVariants as uses
 use Rattle.form_match.specs.Learning.{learnt}
 use Rattle.form_match.specs.Left.{left_of, is_one}
-use Rattle.form_bindings.specs.Learning.{and_bound}
 use Rattle.form_match.specs.Matching.{Host, Choice, clashes, are_apart, uses_of, asks_of, takes_whole, joined, behind, call_ways, any_ways, product_ways, field_asks, is_fixed_argument, is_coefficient_one, inner, starts, asked_function, vectors, choices, ways, word_ways}
 use Rattle.form_match.specs.States.{Open, factors, arguments, calls, State, state, binding_too, taking_too, with_choice, asking_too, with_function, with_stretch, with_call, with_field, behind_arguments, moves, reach}
 use Rattle.form_bindings.specs.Values.{Binding}
+use Rattle.form_match.proofs.Told.{learnt_both}
 
 -- ---- lists
 
@@ -79,14 +79,6 @@ by_each g w a k same (x ∷ xs) = by (w x) (same x) (by_each g w a k same xs) �
     by (Some y) e rest = ap (λ (l : List _). l ++ flat_map g (filter_map w xs)) e ∙ ap (λ (l : List _). filter_map a (k x) ++ l) rest
 
 -- ---- what is learnt
-
-pub learnt_both : (bs a b : List Binding) → learnt bs (a ++ b) ≡ option_and_then (λ made. learnt made b) (learnt bs a)
-learnt_both bs [] b = refl
-learnt_both bs (x ∷ a) b = by (and_bound bs x) (λ made. learnt_both made a b)
-  where
-    by : (o : Option (List Binding)) → ((made : List Binding) → learnt made (a ++ b) ≡ option_and_then (λ next. learnt next b) (learnt made a)) → option_and_then (λ made. learnt made (a ++ b)) o ≡ option_and_then (λ made. learnt made b) (option_and_then (λ made. learnt made a) o)
-    by None rest = refl
-    by (Some made) rest = rest made
 
 -- what is bound first leads to what is bound then
 both_bound : (os : List Open) (bs a b : List Binding) → binding_too os bs (a ++ b) ≡ option_and_then (λ made. binding_too os made b) (learnt bs a)

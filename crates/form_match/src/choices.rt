@@ -3,7 +3,7 @@ ghost use Rattle.std.specs.Prelude.{◌≡◌, ◌+◌, ◌==◌, ◌||◌, if�
 ghost use Rattle.form_term.specs.Term.{exponent_in as exponent_in_powers};
 ghost use Rattle.form_match.specs.Asking.{component_at, delta_at, delta_choice, dot_at, symbol_at, whole_at};
 ghost use Rattle.form_match.specs.Learning.{Chooses, chosen_of};
-ghost use Rattle.form_match.specs.Matching.{absent_choice, and_asked, asked_vector, taking, component_choice, fits as fits_exponent, is_uncut as is_uncut_by, symbol_choice, whole_choice};
+ghost use Rattle.form_match.specs.Matching.{absent_choice, and_asked, asked_index, asked_vector, taking, component_choice, fits as fits_exponent, is_uncut as is_uncut_by, symbol_choice, whole_choice};
 ghost use Rattle.form_match.specs.declared.uses.Use.TheVariants as uses;
 ghost use Rattle.form_tree.specs.declared.pattern.Name.TheVariants.{Itself};
 
@@ -12,7 +12,7 @@ use crate::asking::{ask_exponent, ask_index, ask_symbol, ask_vector, ask_zero};
 use crate::host::Host;
 use form_base::Id;
 use form_bindings::{Bindings, short};
-use form_term::{Component, Delta, DotPower, Power};
+use form_term::{Component, Delta, DotPower, Index, Power};
 use form_tree::{IndexName, Name};
 use std::alloc::AllocError;
 
@@ -296,12 +296,29 @@ fn take_delta(
         (chosen_of bindings.old (delta_choice first.now second.now place of.now is_swapped)) bindings.new) }
     ensures kept { take (length bindings.old) bindings.new ≡ bindings.old }
 {
-    let left = if is_swapped { of.second } else { of.first };
-    let right = if is_swapped { of.first } else { of.second };
-    if !ask_index(bindings, first, &left)? {
+    if is_swapped {
+        return take_indices(bindings, first, second, &of.second, &of.first, place);
+    }
+    take_indices(bindings, first, second, &of.first, &of.second, place)
+}
+
+/// The delta at a place, where these names may stand for these indices.
+fn take_indices(
+    bindings: &mut Bindings,
+    first: &IndexName,
+    second: &IndexName,
+    left: &Index,
+    right: &Index,
+    place: u32,
+) -> Result<Option<Use>, AllocError>
+    ensures told { IfOk result (λ r. Chooses r (chosen_of bindings.old
+        (taking (uses.Delta place) (and_asked (asked_index first.now left.now) (asked_index second.now right.now)))) bindings.new) }
+    ensures kept { take (length bindings.old) bindings.new ≡ bindings.old }
+{
+    if !ask_index(bindings, first, left)? {
         return Ok(None);
     }
-    if !ask_index(bindings, second, &right)? {
+    if !ask_index(bindings, second, right)? {
         return Ok(None);
     }
     Ok(Some(Use::Delta(place)))
