@@ -265,7 +265,16 @@ fn made(answer: Result<bool, ProductError>) -> Result<bool, AllocError>
 {
     match answer {
         Ok(is_made) => Ok(is_made),
-        Err(ProductError::Refused(_)) => Ok(false),
-        Err(ProductError::Memory) => Err(AllocError),
+        Err(error) => unmade(error),
+    }
+}
+
+/// There is none where it is refused.
+fn unmade(error: ProductError) -> Result<bool, AllocError>
+    ensures { result ≡ Ok true → ⊥ }
+{
+    match error {
+        ProductError::Refused(_) => Ok(false),
+        ProductError::Memory => Err(AllocError),
     }
 }
