@@ -6,7 +6,7 @@ use form_number::Number;
 use std::marker::Model;
 
 /// A written sign.
-#[derive(Clone, Copy, Debug, PartialEq, Eq)]
+#[derive(Clone, Copy, PartialEq, Eq)]
 pub enum Sign {
     Plus,
     Minus,
@@ -24,7 +24,7 @@ pub enum Link {
 }
 
 /// A written name.
-#[derive(Debug, Drop)]
+#[derive(Drop)]
 pub struct Spelled {
     pub name: Name,
     pub spot: Spot,

@@ -5,7 +5,7 @@ use form_base::{Spot, Taking};
 use std::marker::Model;
 
 /// What names are declared as.
-#[derive(Clone, Copy, Debug, PartialEq, Eq)]
+#[derive(Clone, Copy, PartialEq, Eq)]
 pub enum Declared {
     Symbols,
     Vectors,

@@ -1,5 +1,5 @@
 /// Where something stands in the texts of a program.
-#[derive(Clone, Copy, Debug, PartialEq, Eq)]
+#[derive(Clone, Copy)]
 pub struct Spot {
     /// The number of its text, from 0, in the order in which texts are taken up: FILE is 0.
     pub text: u32,

@@ -1,5 +1,5 @@
 /// The option of an `id`.
-#[derive(Clone, Copy, Debug, PartialEq, Eq)]
+#[derive(Clone, Copy, PartialEq, Eq)]
 pub enum Taking {
     /// One match is taken.
     Once,

@@ -11,7 +11,7 @@ use std::alloc::{AllocError, Global};
 use std::marker::Model;
 
 /// What stands in a pattern for something of a term.
-#[derive(Clone, Copy, Debug, PartialEq, Eq)]
+#[derive(Clone, Copy)]
 pub enum Wildcard {
     /// A symbol, an index, a vector or a function.
     Name(Id),
@@ -23,7 +23,7 @@ pub enum Wildcard {
 const FIRST_ROOM: usize = 8;
 
 /// A wildcard, and where the pieces of its value stand.
-#[derive(Clone, Copy, Debug, PartialEq, Eq)]
+#[derive(Clone, Copy)]
 struct Entry {
     wildcard: Wildcard,
     start: u32,

@@ -1,5 +1,5 @@
 /// Why there is no value.
-#[derive(Debug, Drop)]
+#[derive(Drop)]
 pub enum CalcError {
     /// What is written is no calculation, or no condition.
     IllFormed,

@@ -4,7 +4,7 @@ ghost use Rattle.form_calc.specs.Number as number;
 use std::marker::Model;
 
 /// A whole number of 128 bits, or none, where a step was out of range.
-#[derive(Clone, Copy, Debug)]
+#[derive(Clone, Copy)]
 pub struct Number {
     value: Option<i128>,
 }

@@ -5,7 +5,7 @@ use std::alloc::{AllocError, Global};
 use std::marker::Model;
 
 /// Things one after another: in a clause their list.
-#[derive(Debug, Drop)]
+#[derive(Drop)]
 pub struct Row<T> {
     items: Vec<T>,
 }

@@ -5,7 +5,7 @@ use form_tree::{Pattern, Tree};
 use std::marker::Model;
 
 /// Ids, in a clause their list.
-#[derive(Debug, Drop)]
+#[derive(Drop)]
 pub struct IdList {
     ids: Vec<Id>,
 }
@@ -33,7 +33,7 @@ impl IdList {
 }
 
 /// Which expressions a statement means.
-#[derive(Debug, Drop)]
+#[derive(Drop)]
 pub enum Selection {
     /// All that stand.
     All,
@@ -42,7 +42,7 @@ pub enum Selection {
 }
 
 /// What is put in for what: an `id` or an `also`.
-#[derive(Debug, Drop)]
+#[derive(Drop)]
 pub struct Rewriting {
     /// Its option, where one is written.
     pub option: Option<Taking>,
@@ -51,7 +51,7 @@ pub struct Rewriting {
 }
 
 /// A checked statement. Declarations are in the program's names.
-#[derive(Debug, Drop)]
+#[derive(Drop)]
 pub enum Checked {
     Drop(Selection),
     Skip(Selection),
@@ -63,7 +63,7 @@ pub enum Checked {
 }
 
 /// A module: in a clause the list of its statements, in the order of the text.
-#[derive(Debug, Drop)]
+#[derive(Drop)]
 pub struct Module {
     statements: Vec<Checked>,
 }

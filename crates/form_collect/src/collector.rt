@@ -21,7 +21,7 @@ pub struct Collector {
 }
 
 /// Why nothing is collected.
-#[derive(Debug, Drop)]
+#[derive(Drop)]
 pub enum CollectError {
     /// A sum of coefficients is out of range.
     Overflow,

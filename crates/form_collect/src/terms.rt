@@ -7,7 +7,6 @@ use std::mem;
 
 /// The terms of an expression, in a clause their list. They are given back in the order in which they came, as their
 /// memory lies: in their own order the allocator would go to and fro, which takes three times as long.
-#[derive(Debug)]
 pub struct Terms {
     items: Vec<Monomial>,
     /// The places of the terms, in the order in which they came; those of none where that isn't known.

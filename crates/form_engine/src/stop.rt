@@ -6,7 +6,7 @@ use form_outside::SinkErr;
 use std::alloc::AllocError;
 
 /// What ends a call before its outcome is carried out.
-#[derive(Clone, Copy, Debug, PartialEq, Eq)]
+#[derive(Clone, Copy, PartialEq, Eq)]
 pub enum Stop {
     Library,
     Sink,

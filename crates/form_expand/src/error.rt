@@ -3,7 +3,7 @@ use form_normal::ProductError;
 use std::alloc::{AllocError, AllocFailed};
 
 /// Why no further term comes.
-#[derive(Debug, Drop)]
+#[derive(Drop)]
 pub enum ExpandError {
     /// The list is refused here.
     Refused(Cause),

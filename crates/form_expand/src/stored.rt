@@ -15,7 +15,7 @@ use std::alloc::{AllocError, Global};
 use std::marker::Model;
 
 /// An expression whose terms a right side may name.
-#[derive(Debug, Drop)]
+#[derive(Drop)]
 pub struct Stored {
     pub expression: Id,
     pub terms: Terms,

@@ -15,7 +15,7 @@ use form_term::{Monomial, Term};
 use std::alloc::{AllocError, Global};
 
 /// What one who takes outputs answers.
-#[derive(Clone, Copy, Debug, PartialEq, Eq)]
+#[derive(Clone, Copy, PartialEq, Eq)]
 pub enum Go {
     Continues,
     /// It wants no more.
@@ -37,7 +37,7 @@ pub trait Emit {
 }
 
 /// How carrying a term out ended.
-#[derive(Debug, Drop)]
+#[derive(Drop)]
 pub enum End {
     Done,
     Refused(Cause),

@@ -11,7 +11,7 @@ use std::cmp::Ordering;
 use std::marker::Model;
 
 /// A fraction in lowest terms, over a denominator of at least 1, both parts at most 2^127-1 in size.
-#[derive(Clone, Copy, Debug, PartialEq, Eq)]
+#[derive(Clone, Copy, PartialEq, Eq)]
 pub struct Frac {
     numerator: i128,
     denominator: u128,

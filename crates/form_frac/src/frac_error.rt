@@ -1,5 +1,5 @@
 /// Why there is no result.
-#[derive(Clone, Copy, Debug, PartialEq, Eq)]
+#[derive(Clone, Copy, PartialEq, Eq)]
 pub enum FracError {
     /// A part is past 2^127-1 in size.
     Overflow,

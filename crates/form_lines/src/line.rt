@@ -5,7 +5,7 @@ use std::alloc::{AllocError, Global};
 use std::marker::Model;
 
 /// A physical line of a text, without its end. Its bytes are tabs and from 32 to 126.
-#[derive(Debug, Drop)]
+#[derive(Drop)]
 pub struct Line {
     number: u32,
     text: String,

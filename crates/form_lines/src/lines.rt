@@ -9,7 +9,7 @@ use crate::Line;
 use std::alloc::{AllocError, AllocFailed, Global};
 
 /// Why a text's lines can't be had.
-#[derive(Debug, Drop)]
+#[derive(Drop)]
 pub enum LinesError {
     /// The line of that number is the first that has another byte than a tab and 32 to 126 and isn't commentary.
     BadByte(u32),

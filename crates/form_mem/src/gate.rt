@@ -1,7 +1,7 @@
 use form_outside::Gate;
 
 /// A gate that keeps no seat waiting.
-#[derive(Clone, Copy, Debug)]
+#[derive(Clone, Copy)]
 pub struct OpenGate;
 
 impl Gate for OpenGate {

@@ -2,7 +2,7 @@ use form_base::{Cause, Id};
 use std::alloc::{AllocError, AllocFailed};
 
 /// Why a module wasn't carried out.
-#[derive(Debug, Drop)]
+#[derive(Drop)]
 pub enum ModuleError {
     /// It is refused, at this expression.
     Refused(Cause, Id),

@@ -5,7 +5,7 @@ use form_expand::ExpandError;
 use std::alloc::AllocError;
 
 /// Why there is no result.
-#[derive(Debug, Drop)]
+#[derive(Drop)]
 pub enum ResultError {
     Refused(Cause),
     Memory,

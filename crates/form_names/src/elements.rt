@@ -7,7 +7,7 @@ use std::marker::Model;
 use std::sync::ArcSlice;
 
 /// Names as elements of a set, in a clause the list of their Ids. Copies take no memory.
-#[derive(Debug, Drop)]
+#[derive(Drop)]
 pub struct Ids {
     ids: ArcSlice<Id>,
 }
@@ -50,7 +50,7 @@ impl Clone for Ids {
 }
 
 /// Whole numbers as elements of a set, in a clause their list. Copies take no memory.
-#[derive(Debug, Drop)]
+#[derive(Drop)]
 pub struct Numbers {
     numbers: ArcSlice<i128>,
 }
@@ -93,7 +93,7 @@ impl Clone for Numbers {
 }
 
 /// The elements of a set: names of one kind, or whole numbers.
-#[derive(Debug, Drop)]
+#[derive(Drop)]
 pub enum Elements {
     Names(Ids),
     Numbers(Numbers),

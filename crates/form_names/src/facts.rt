@@ -1,7 +1,7 @@
 use crate::{Elements, Kind};
 
 /// What is known of a declared name.
-#[derive(Debug, Drop)]
+#[derive(Drop)]
 pub(crate) struct Facts {
     pub(crate) kind: Kind,
     /// Those of a set, none for another name.

@@ -9,7 +9,7 @@ use std::alloc::{AllocError, Global};
 use std::marker::Model;
 
 /// Why a name wasn't declared.
-#[derive(Debug, Drop)]
+#[derive(Drop)]
 pub enum DeclareError {
     /// It stands with another kind.
     Redeclared,

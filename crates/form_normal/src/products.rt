@@ -21,7 +21,7 @@ const LARGEST_EXPONENT: u32 = 1_000_000_000;
 pub(crate) const LARGEST_SIZE: usize = 4096;
 
 /// Why there is no product.
-#[derive(Debug, Drop)]
+#[derive(Drop)]
 pub enum ProductError {
     Refused(Cause),
     Memory,

@@ -8,7 +8,7 @@ use std::marker::Model;
 pub(crate) const PAST_LIMITS: u128 = 1 << 127;
 
 /// The digits of a number, the highest first.
-#[derive(Debug, Drop)]
+#[derive(Drop)]
 pub struct Digits {
     bytes: Vec<u8>,
 }

@@ -9,7 +9,7 @@ use std::alloc::{AllocError, Global};
 use std::marker::Model;
 
 /// How a number with its spot is kept: so it takes 32 bytes, and 48 if the spot stood behind the number.
-#[derive(Debug, Drop)]
+#[derive(Drop)]
 pub(crate) enum Written {
     /// One below 2^127, by its value.
     Small(Spot, u128),
@@ -18,7 +18,7 @@ pub(crate) enum Written {
 }
 
 /// A whole number as it is written, of any size, and where it stands.
-#[derive(Debug, Drop)]
+#[derive(Drop)]
 pub struct Number {
     written: Written,
 }
@@ -38,7 +38,7 @@ impl Model for Number {
 }
 
 /// A written number as far as limits ask: one past 2^127-1, which is past each of them, counts as 2^127.
-#[derive(Clone, Copy, Debug, PartialEq, Eq)]
+#[derive(Clone, Copy)]
 pub struct Capped {
     pub value: u128,
     pub spot: Spot,

@@ -31,7 +31,7 @@ pub struct Expanded {
 }
 
 /// Why a file has no lines.
-#[derive(Debug, Drop)]
+#[derive(Drop)]
 pub enum FileError {
     /// The library has no text of its name.
     Missing,

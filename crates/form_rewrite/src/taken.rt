@@ -8,7 +8,7 @@ use std::alloc::{AllocError, Global};
 use std::marker::Model;
 
 /// Why the word of a term is cut at a place.
-#[derive(Clone, Copy, Debug, PartialEq, Eq)]
+#[derive(Clone, Copy)]
 pub enum Origin {
     /// It was cut there before: by its number among those places.
     Given(u32),
@@ -17,7 +17,7 @@ pub enum Origin {
 }
 
 /// A place in the word that is left, in front of so many of its functions.
-#[derive(Clone, Copy, Debug, PartialEq, Eq)]
+#[derive(Clone, Copy)]
 pub struct Cut {
     pub place: u32,
     pub origin: Origin,

@@ -2,7 +2,7 @@ use form_base::{Cause, Spot};
 use std::alloc::{AllocError, AllocFailed};
 
 /// Why a program wasn't checked to its end.
-#[derive(Debug, Drop)]
+#[derive(Drop)]
 pub enum CheckError {
     /// It is refused, at this spot.
     Refused(Cause, Spot),
@@ -10,7 +10,7 @@ pub enum CheckError {
 }
 
 /// A number is past its limit, at this spot.
-#[derive(Clone, Copy, Debug)]
+#[derive(Clone, Copy)]
 pub struct PastLimit {
     pub spot: Spot,
 }

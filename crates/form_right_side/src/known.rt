@@ -14,7 +14,7 @@ fn place_of(names: &[Name], name: &str) -> Option<usize>
 
 /// What a right side knows of its pattern: which names are wildcards there, and the names of its fields, in the order of
 /// their numbers. That of a definition knows nothing.
-#[derive(Debug, Drop)]
+#[derive(Drop)]
 pub struct Known {
     wildcards: Vec<Id>,
     fields: Vec<Name>,

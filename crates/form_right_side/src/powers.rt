@@ -18,7 +18,7 @@ pub const LARGEST_EXPONENT: u32 = 1_000_000_000;
 pub const LARGEST_POWER: u32 = 1_000;
 
 /// A written power as far as limits ask: its sign, and its number, capped.
-#[derive(Clone, Copy, Debug)]
+#[derive(Clone, Copy)]
 pub struct Power {
     pub sign: Option<Sign>,
     pub number: Capped,

@@ -6,7 +6,7 @@ use form_base::Id;
 use std::alloc::{AllocError, Global};
 
 /// What was done to an expression. Modules are numbered from 1; 0 is none.
-#[derive(Clone, Copy, Debug, PartialEq, Eq)]
+#[derive(Clone, Copy)]
 pub struct Mark {
     /// The last module that defines it.
     defined: u64,

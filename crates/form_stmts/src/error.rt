@@ -2,7 +2,7 @@ use form_base::Spot;
 use std::alloc::{AllocError, AllocFailed};
 
 /// Why lines are no program.
-#[derive(Debug, Drop)]
+#[derive(Drop)]
 pub enum ProgramError {
     /// The first statement that is outside the grammar begins here, or the first instruction.
     BadSyntax(Spot),

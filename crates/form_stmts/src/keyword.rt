@@ -4,7 +4,7 @@ ghost use Rattle.form_stmts.specs.Keyword.{declared_by as declared_by_name, sett
 use form_ast::Declared;
 
 /// What a statement does, by its first name.
-#[derive(Clone, Copy, Debug, PartialEq, Eq)]
+#[derive(Clone, Copy)]
 pub enum Keyword {
     /// Names are declared, other than indices.
     Names(Declared),

@@ -5,7 +5,7 @@ use form_base::Spot;
 use std::marker::Model;
 
 /// A line of a program, without its end, and where it stands. It is ASCII.
-#[derive(Debug, Drop)]
+#[derive(Drop)]
 pub struct Line<'a> {
     spot: Spot,
     text: &'a str,

@@ -15,7 +15,7 @@ use std::alloc::{AllocError, Global};
 use std::marker::Model;
 
 /// The arguments of a function, one after another: in a clause the list of their pieces.
-#[derive(Debug, Drop)]
+#[derive(Drop)]
 pub struct Arguments {
     pieces: Vec<Piece>,
 }

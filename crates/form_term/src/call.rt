@@ -13,7 +13,7 @@ use std::marker::Model;
 
 /// A function with its arguments, kept as their pieces. Copies share the arguments, and take no memory: up to nine
 /// pieces, as most functions have, and the count of their owners are one block, more pieces and the count are two.
-#[derive(Debug, Drop)]
+#[derive(Drop)]
 pub struct Call {
     packed: Packed,
 }

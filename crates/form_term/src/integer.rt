@@ -6,7 +6,7 @@ use std::hash::{Hash, Hasher};
 use std::marker::Model;
 
 /// A whole number of 128 bits with a sign, kept as the digits of its bits: in a clause that number.
-#[derive(Clone, Copy, Debug)]
+#[derive(Clone, Copy)]
 pub struct Integer {
     bits: Natural,
 }

@@ -8,7 +8,7 @@ use form_frac::Frac;
 use std::alloc::Global;
 
 /// A term with its coefficient.
-#[derive(Clone, Debug, Drop)]
+#[derive(Clone, Drop)]
 pub struct Monomial {
     pub coefficient: Frac,
     pub term: Term,

@@ -6,7 +6,7 @@ use std::marker::Model;
 
 /// A whole number below 2^128, kept as its digits of 32 bits, the lowest first, so that what holds it needs no place of
 /// a multiple of 16 bytes: in a clause that number.
-#[derive(Clone, Copy, Debug)]
+#[derive(Clone, Copy)]
 pub struct Natural {
     first: u32,
     second: u32,

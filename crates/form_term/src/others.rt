@@ -7,7 +7,7 @@ use std::alloc::{AllocError, Global};
 use std::marker::Model;
 
 /// The factors of a term besides powers of symbols.
-#[derive(Debug, Drop)]
+#[derive(Drop)]
 pub struct Others {
     /// Whether `i_` is there.
     pub is_imaginary: bool,

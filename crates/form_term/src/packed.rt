@@ -11,7 +11,7 @@ use std::sync::{Arc, ArcSlice};
 /// A function with its size and its depth as they are kept, its name, and the pieces of its arguments, which copies
 /// share: up to nine pieces and the count of their owners are one block of memory. Fields lie in this order, so it has
 /// 16 bytes.
-#[derive(Clone, Debug, Drop)]
+#[derive(Clone, Drop)]
 pub(crate) enum Packed {
     One(u8, u8, Id, Arc<[Piece; 1]>),
     Two(u8, u8, Id, Arc<[Piece; 2]>),

@@ -6,7 +6,7 @@ use std::cmp::Reverse;
 use std::hash::{Hash, Hasher};
 
 /// The coefficient of a term inside an argument, in lowest terms.
-#[derive(Clone, Copy, Debug, PartialEq, Eq, PartialOrd, Ord)]
+#[derive(Clone, Copy, PartialEq, Eq, PartialOrd, Ord)]
 pub struct Coefficient {
     pub numerator: Integer,
     pub denominator: Natural,
@@ -58,7 +58,7 @@ impl Hash for Coefficient {
 /// piece. A negative power is below the end of a term, as the symbol's exponent is 0 there, and a positive one is above
 /// it; so is each other factor, since of two lists of factors a prefix comes first. A positive power of an earlier
 /// symbol is above one of a later symbol.
-#[derive(Clone, Copy, Debug, PartialEq, Eq, PartialOrd, Ord)]
+#[derive(Clone, Copy, PartialEq, Eq, PartialOrd, Ord)]
 pub enum Piece {
     /// The arguments of an inner function end.
     EndOfArguments,

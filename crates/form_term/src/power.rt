@@ -4,7 +4,7 @@ use form_base::Id;
 use std::hash::{Hash, Hasher};
 
 /// A symbol with its exponent.
-#[derive(Clone, Copy, Debug, PartialEq, Eq, PartialOrd, Ord)]
+#[derive(Clone, Copy, PartialEq, Eq, PartialOrd, Ord)]
 pub struct Power {
     pub symbol: Id,
     pub exponent: i32,
@@ -35,7 +35,7 @@ impl Hash for Power {
 }
 
 /// A dot product of two vectors, the one declared first at the left, with its exponent.
-#[derive(Clone, Copy, Debug, PartialEq, Eq, PartialOrd, Ord, Hash)]
+#[derive(Clone, Copy, PartialEq, Eq, PartialOrd, Ord, Hash)]
 pub struct DotPower {
     pub left: Id,
     pub right: Id,

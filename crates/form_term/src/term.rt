@@ -14,7 +14,7 @@ use std::marker::Model;
 
 /// A term: a product of powers of symbols and of other factors. It has the symbols whose exponent isn't 0, in order of
 /// declaration. A term of symbols and commuting functions alone takes no memory for the rest.
-#[derive(Debug, Drop)]
+#[derive(Drop)]
 pub struct Term {
     symbols: Vec<Power>,
     functions: Vec<Call>,
@@ -22,7 +22,7 @@ pub struct Term {
 }
 
 /// The factors besides powers of symbols and commuting functions, of which there are some.
-#[derive(Debug, Drop)]
+#[derive(Drop)]
 struct Rest {
     is_imaginary: bool,
     dots: Vec<DotPower>,

@@ -7,7 +7,7 @@ use form_names::Elements;
 use std::marker::Model;
 
 /// The sets that a wildcard is restricted to, all of which have to have its value: in a clause their list.
-#[derive(Debug, Drop)]
+#[derive(Drop)]
 pub struct Sets {
     sets: Vec<Elements>,
 }
@@ -36,21 +36,21 @@ impl Sets {
 }
 
 /// A name in a pattern: itself, or a wildcard.
-#[derive(Debug, Drop)]
+#[derive(Drop)]
 pub enum Name {
     Itself(Id),
     Wild(Id, Sets),
 }
 
 /// An index in a pattern.
-#[derive(Debug, Drop)]
+#[derive(Drop)]
 pub enum IndexName {
     Fixed(u32),
     Name(Name),
 }
 
 /// What a wildcard that is an argument stands for.
-#[derive(Clone, Copy, Debug, PartialEq, Eq)]
+#[derive(Clone, Copy, PartialEq, Eq)]
 pub enum Sort {
     Expression,
     Index,
@@ -58,7 +58,7 @@ pub enum Sort {
 }
 
 /// A piece of a pattern.
-#[derive(Debug, Drop)]
+#[derive(Drop)]
 pub enum PatternPiece {
     /// A power of a symbol.
     Symbol(Name, i64),
@@ -89,7 +89,7 @@ pub enum PatternPiece {
 
 /// A pattern, flat, with its arguments that have no wildcards by their numbers: in a clause the list of its pieces, and
 /// for each of these arguments the list of its pieces.
-#[derive(Debug, Drop)]
+#[derive(Drop)]
 pub struct Pattern {
     pieces: Vec<PatternPiece>,
     fixed: Vec<Tree>,

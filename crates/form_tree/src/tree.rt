@@ -5,7 +5,7 @@ use form_term::{Component, Index, Natural};
 use std::marker::Model;
 
 /// How a factor stands to what is before it.
-#[derive(Clone, Copy, Debug, PartialEq, Eq)]
+#[derive(Clone, Copy, PartialEq, Eq)]
 pub enum Link {
     /// It begins a product that is added.
     Plus,
@@ -16,7 +16,7 @@ pub enum Link {
 }
 
 /// What stands below a power that a wildcard stands for, where it is one piece.
-#[derive(Clone, Copy, Debug, PartialEq, Eq)]
+#[derive(Clone, Copy)]
 pub enum Base {
     Number(Natural),
     Symbol(Id),
@@ -29,7 +29,7 @@ pub enum Base {
 }
 
 /// A power that a wildcard stands for, behind a sign, and whether its factor stands after `/`.
-#[derive(Clone, Copy, Debug, PartialEq, Eq)]
+#[derive(Clone, Copy)]
 pub struct Exponent {
     pub is_over: bool,
     pub is_minus: bool,
@@ -38,7 +38,7 @@ pub struct Exponent {
 
 /// A piece of a right side. A factor that is divided by has a negative power. It has 32 bytes, since a right side may
 /// have millions.
-#[derive(Clone, Copy, Debug, PartialEq, Eq)]
+#[derive(Clone, Copy)]
 pub enum Piece {
     /// A whole number to a power.
     Number {
@@ -134,7 +134,7 @@ const _: () = prove!(size_of::<Piece>() == 32);
 
 /// A right side, flat, so that it is walked and dropped without recursion however deep it is: in a clause the list of its
 /// pieces in the order of the text.
-#[derive(Debug, Drop)]
+#[derive(Drop)]
 pub struct Tree {
     pieces: Vec<Piece>,
 }

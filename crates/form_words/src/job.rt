@@ -11,7 +11,7 @@ pub struct Job {
 }
 
 /// Why the words give no job.
-#[derive(Clone, Copy, Debug, PartialEq, Eq)]
+#[derive(Clone, Copy, PartialEq, Eq)]
 pub enum WordsError {
     /// They are no command line.
     Usage,
