@@ -8,12 +8,13 @@ use crate::packed::Packed;
 use form_base::Id;
 use std::alloc::{AllocError, Global};
 use std::cmp::Ordering;
+use std::fmt;
 use std::hash::{Hash, Hasher};
 use std::marker::Model;
 
 /// A function with its arguments, kept as their pieces. Copies share the arguments, and take no memory: up to nine
 /// pieces, as most functions have, and the count of their owners are one block, more pieces and the count are two.
-#[derive(Debug, Drop)]
+#[derive(Drop)]
 pub struct Call {
     packed: Packed,
 }
@@ -124,6 +125,15 @@ fn saturated(number: usize) -> u8
         number as u8
     } else {
         MOST
+    }
+}
+
+impl fmt::Debug for Call {
+    fn fmt<W: fmt::Write>(&self, f: &mut fmt::Formatter<W>) -> fmt::Result {
+        f.debug_struct("Call")
+            .field("function", &self.function())
+            .field("pieces", &self.pieces())
+            .finish()
     }
 }
 
