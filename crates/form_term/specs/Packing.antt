@@ -1,6 +1,6 @@
 -- What a function holds as it lies in memory: its size and its depth as they are kept, its name, and its pieces.
 use Rattle.std.specs.Prelude.{◌≡◌, ℕ, List}
-use Rattle.std.specs.Arc.{arc_value, arc_slice_items}
+use Rattle.std.specs.Arc.{arc_value}
 use Rattle.form_term.specs.declared.packed.Packed.{Packed}
 use Rattle.form_term.specs.declared.packed.Packed.TheVariants.{One, Two, Three, Four, Five, Six, Seven, Eight, Nine, Many}
 use Rattle.form_term.specs.declared.piece.Piece.{Piece}
@@ -51,7 +51,7 @@ pieces_in (Six s d f ps) = arc_value ps
 pieces_in (Seven s d f ps) = arc_value ps
 pieces_in (Eight s d f ps) = arc_value ps
 pieces_in (Nine s d f ps) = arc_value ps
-pieces_in (Many s d f ps) = arc_slice_items ps
+pieces_in (Many s d f ps) = (arc_value ps).items
 
 abbrev pub IsPacked : ℕ → ℕ → ℕ → List Piece → Packed → Type 0
 IsPacked size depth function pieces p = (size_in p ≡ size) × (depth_in p ≡ depth) × (function_in p ≡ function) × (pieces_in p ≡ pieces)

@@ -6,12 +6,12 @@ ghost use Rattle.form_term.specs.Packing.{IsPacked, function_in, size_in, depth_
 use crate::Piece;
 use form_base::Id;
 use std::alloc::{AllocError, Global};
-use std::sync::{Arc, ArcSlice};
+use std::sync::Arc;
 
 /// A function with its size and its depth as they are kept, its name, and the pieces of its arguments, which copies
 /// share: up to nine pieces and the count of their owners are one block of memory. Fields lie in this order, so it has
 /// 16 bytes.
-#[derive(Clone, Drop)]
+#[derive(Drop)]
 pub(crate) enum Packed {
     One(u8, u8, Id, Arc<[Piece; 1]>),
     Two(u8, u8, Id, Arc<[Piece; 2]>),
@@ -22,7 +22,7 @@ pub(crate) enum Packed {
     Seven(u8, u8, Id, Arc<[Piece; 7]>),
     Eight(u8, u8, Id, Arc<[Piece; 8]>),
     Nine(u8, u8, Id, Arc<[Piece; 9]>),
-    Many(u8, u8, Id, ArcSlice<Piece>),
+    Many(u8, u8, Id, Arc<Vec<Piece>>),
 }
 
 impl Packed {
@@ -45,7 +45,7 @@ impl Packed {
             7 => Ok(Packed::Seven(size, depth, function, shared(alloc, &pieces)?)),
             8 => Ok(Packed::Eight(size, depth, function, shared(alloc, &pieces)?)),
             9 => Ok(Packed::Nine(size, depth, function, shared(alloc, &pieces)?)),
-            _ => Ok(Packed::Many(size, depth, function, ArcSlice::from_vec(pieces)?)),
+            _ => Ok(Packed::Many(size, depth, function, Arc::new(alloc, pieces)?)),
         }
     }
 
@@ -125,7 +125,19 @@ impl Packed {
     pub(crate) fn copied(&self) -> Result<Packed, AllocError>
         ensures { IfOk result (IsPacked (size_in self.now) (depth_in self.now) (function_in self.now) (pieces_in self.now)) }
     {
-        self.clone()
+        let (size, depth, function) = (self.size(), self.depth(), self.function());
+        match self {
+            Packed::One(.., pieces) => Ok(Packed::One(size, depth, function, pieces.clone()?)),
+            Packed::Two(.., pieces) => Ok(Packed::Two(size, depth, function, pieces.clone()?)),
+            Packed::Three(.., pieces) => Ok(Packed::Three(size, depth, function, pieces.clone()?)),
+            Packed::Four(.., pieces) => Ok(Packed::Four(size, depth, function, pieces.clone()?)),
+            Packed::Five(.., pieces) => Ok(Packed::Five(size, depth, function, pieces.clone()?)),
+            Packed::Six(.., pieces) => Ok(Packed::Six(size, depth, function, pieces.clone()?)),
+            Packed::Seven(.., pieces) => Ok(Packed::Seven(size, depth, function, pieces.clone()?)),
+            Packed::Eight(.., pieces) => Ok(Packed::Eight(size, depth, function, pieces.clone()?)),
+            Packed::Nine(.., pieces) => Ok(Packed::Nine(size, depth, function, pieces.clone()?)),
+            Packed::Many(.., pieces) => Ok(Packed::Many(size, depth, function, pieces.clone()?)),
+        }
     }
 }
 

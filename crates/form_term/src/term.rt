@@ -125,11 +125,10 @@ impl Term {
             deltas,
             word,
         };
-        let rest = Box::new(alloc, rest).map_err(|_| AllocError)?;
         Ok(Term {
             symbols: powers,
             functions,
-            rest: Some(rest),
+            rest: Some(Box::new(alloc, rest)?),
         })
     }
 
@@ -333,7 +332,7 @@ fn in_memory(alloc: Global, rest: Option<Box<Rest>>) -> Result<Box<Rest>, AllocE
 {
     match rest {
         Some(rest) => Ok(rest),
-        None => Box::new(alloc, Rest::none(alloc)).map_err(|_| AllocError),
+        None => Ok(Box::new(alloc, Rest::none(alloc))?),
     }
 }
 
