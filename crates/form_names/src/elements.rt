@@ -4,29 +4,30 @@ ghost use Rattle.form_names.specs.Elements.{is_same_elements};
 use form_base::Id;
 use std::alloc::{AllocError, Global};
 use std::marker::Model;
-use std::sync::ArcSlice;
+use std::sync::Arc;
 
 /// Names as elements of a set, in a clause the list of their Ids. Copies take no memory.
 #[derive(Drop)]
 pub struct Ids {
-    ids: ArcSlice<Id>,
+    ids: Arc<Vec<Id>>,
 }
 
 impl Model for Ids {
     ghost use Rattle.std.specs.Prelude.{List, ℕ};
-    ghost use Rattle.std.specs.Arc.{arc_slice_items};
+    ghost use Rattle.std.specs.Arc.{arc_value};
 
     ghost Value = { List ℕ };
 
-    ghost view = { λ l. arc_slice_items l.ids };
+    ghost view = { λ l. (arc_value l.ids).items };
 }
 
 impl Ids {
     pub fn from_vec(ids: Vec<Id>) -> Result<Ids, AllocError>
         ensures { IfOk result (λ l. l ≡ ids.items) }
     {
+        let alloc = *ids.allocator();
         Ok(Ids {
-            ids: ArcSlice::from_vec(ids)?,
+            ids: Arc::new(alloc, ids)?,
         })
     }
 
@@ -52,24 +53,25 @@ impl Clone for Ids {
 /// Whole numbers as elements of a set, in a clause their list. Copies take no memory.
 #[derive(Drop)]
 pub struct Numbers {
-    numbers: ArcSlice<i128>,
+    numbers: Arc<Vec<i128>>,
 }
 
 impl Model for Numbers {
     ghost use Rattle.std.specs.Prelude.{List, ℤ};
-    ghost use Rattle.std.specs.Arc.{arc_slice_items};
+    ghost use Rattle.std.specs.Arc.{arc_value};
 
     ghost Value = { List ℤ };
 
-    ghost view = { λ l. arc_slice_items l.numbers };
+    ghost view = { λ l. (arc_value l.numbers).items };
 }
 
 impl Numbers {
     pub fn from_vec(numbers: Vec<i128>) -> Result<Numbers, AllocError>
         ensures { IfOk result (λ l. l ≡ numbers.items) }
     {
+        let alloc = *numbers.allocator();
         Ok(Numbers {
-            numbers: ArcSlice::from_vec(numbers)?,
+            numbers: Arc::new(alloc, numbers)?,
         })
     }
 
