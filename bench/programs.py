@@ -122,6 +122,29 @@ def dot_products(file):
     plain(";", "id p.q = p.k - q.k;", "id k.l^2 = x;", "id p.k = q.r + l.r;", ".end")(file)
 
 
+EIGHT = "a + 2*b - c + 3*d - e^2 + f/2 - 5*g + h"
+
+
+def multiplied(file):
+    """16 terms that are multiplied six times by a sum of eight."""
+    plain("Symbols x,a,b,c,d,e,f,g,h;", f"Local F = {' + '.join(f'{it + 1}*x^{it}' for it in range(16))};", *[f"multiply {EIGHT};"] * 6, ".end")(file)
+
+
+def asked(file):
+    """16 powers, of which a condition chooses 13: their symbols become sums one by one, and all are multiplied by a sum."""
+    inputs = " + ".join(f"{it + 2}*x^{it % 4 + 13}*w^{it + 1}" for it in range(16))
+    plain("Symbols x,y,z,w,a,b,c;", f"Local F = {inputs};", "if (count(x,1,w,2) > 22);", "repeat id once x = y - z;", "endif;", "multiply a + b*w - c;", ".end")(file)
+
+
+def ordering(file):
+    """8,000 words of two functions that don't commute, brought into normal order."""
+    seeded = random.Random(17)
+    file.write("Functions A,B;\nLocal F =\n")
+    for term in range(8_000):
+        file.write(f"  + {term + 1}*{'*'.join(seeded.choice('AB') for _ in range(10))}\n")
+    plain(";", "repeat id A*B = B*A + 1;", ".end")(file)
+
+
 ALL = [
     Program("product", "a product of ten sums of four to six terms over ten symbols", 4_608_000, product),
     Program("modules", "the same, one sum a module", 869_350, modules),
@@ -135,4 +158,7 @@ ALL = [
     Program("fields", "an id with two fields over 20,000 terms with functions of eight arguments", None, fields),
     Program("words", "six ids that exchange two functions in 20,000 words of eight", None, words),
     Program("dot_products", "three ids that put sums in the place of dot products in 10,000 terms", None, dot_products),
+    Program("multiplied", "16 terms multiplied six times by a sum of eight", 16 * 8 ** 6, multiplied),
+    Program("asked", "16 powers, of which a condition chooses 13, whose symbols become sums one by one, times a sum", 3 * (2 ** 13 * 3 + 2 ** 14 * 3 + 2 ** 15 * 3 + 2 ** 16 * 4 + 3), asked),
+    Program("ordering", "8,000 words of ten functions that don't commute, brought into normal order", None, ordering),
 ]

@@ -1,2 +1,5 @@
 pub mod Building
 pub mod Counting
+pub mod Lower
+pub mod Rows
+pub mod Holding

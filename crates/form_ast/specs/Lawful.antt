@@ -1,5 +1,5 @@
 -- What a right side or a pattern may not have although its tokens are in order.
-use Rattle.std.specs.Prelude.{◌≡◌, ◌≢◌, ℕ, ◌+◌, ◌<◌, List, [], true, IsTrue, Option, Some, None, All}
+use Rattle.std.specs.Prelude.{◌≡◌, ◌≢◌, ◌⊎◌, ℕ, zero, suc, ◌+◌, ◌-◌, ◌<◌, ◌≤◌, List, [], length, true, IsTrue, Option, Some, None, All}
 use Rattle.form_ast.specs.declared.expr.Sign.{Sign}
 use Rattle.form_ast.specs.declared.expr.Sign.TheVariants.{Minus}
 use Rattle.form_ast.specs.declared.expr.Power.{Power}
@@ -7,13 +7,20 @@ use Rattle.form_ast.specs.declared.expr.Named.TheVariants.{Declared, Imaginary}
 use Rattle.form_ast.specs.declared.expr.Restriction.{Restriction}
 use Rattle.form_ast.specs.declared.expr.Restriction.TheVariants.{Names, Numbers}
 use Rattle.form_ast.specs.declared.expr.Piece.{Piece}
+use Rattle.form_number.specs.declared.number.Number.{Number}
+use Rattle.form_ast.specs.declared.condition.Value.{Value}
+use Rattle.form_ast.specs.declared.condition.Value.TheVariants as values
+use Rattle.form_base.specs.declared.comparison.Comparison.{Comparison}
+use Rattle.form_ast.specs.Conditions.{Condition, Test, nonzero, compared}
+use Rattle.form_ast.specs.Conditions as conditions
 use Rattle.form_ast.specs.declared.setting.Setting.{Setting}
 use Rattle.form_ast.specs.declared.setting.Setting.TheVariants.{Plain, Right, Pattern}
-use Rattle.form_ast.specs.declared.statement.Placed.{Placed}
+use Rattle.form_ast.specs.declared.module.PlacedPart.{PlacedPart}
 use Rattle.form_ast.specs.declared.statement.Statement.{Statement}
-use Rattle.form_ast.specs.declared.statement.Statement.TheVariants.{Local, Rewrite}
+use Rattle.form_ast.specs.declared.statement.Statement.TheVariants.{Local, Rewrite, Multiply, If, ElseIf}
 use Rattle.form_ast.specs.Syntax.{Label, named, wildcard, Entry, name_entry, number_entry, Sum, first, more, Product, one, times, over, Factor, factor, raised, Base, number, name, dot, delta, empty_call, call, parenthesis, Arguments, argument, further, Argument, expression, field, pieces_of_sum}
 use Rattle.form_ast.specs.Patterns.{is_pattern, IsKnownPiece}
+use Rattle.form_ast.specs.Written.{WrittenAction, WrittenBranch, part_written, parts_written, written}
 
 -- ---- names, fields and powers
 
@@ -125,12 +132,15 @@ pub record AreLawful (list : List Piece) : Type 0 where
   pub lawful : IsLawful tree
   pub pieces : list ≡ pieces_of_sum tree
 
--- the pieces are those of a pattern
-pub record ArePattern (list : List Piece) : Type 0 where
+-- the pieces are those of a pattern that stands where so many parentheses are open
+pub record ArePatternWithin (opened : ℕ) (list : List Piece) : Type 0 where
   pub tree : Sum
-  pub lawful : IsLawfulSum Pattern 0 tree
+  pub lawful : IsLawfulSum Pattern opened tree
   pub is_pattern : IsTrue (is_pattern tree)
   pub pieces : list ≡ pieces_of_sum tree
+
+abbrev pub ArePattern : List Piece → Type 0
+ArePattern list = ArePatternWithin 0 list
 
 -- the pieces are those of a right side, whose powers by a name and fields are known from a pattern with these pieces
 pub record AreRight (pattern list : List Piece) : Type 0 where
@@ -139,11 +149,89 @@ pub record AreRight (pattern list : List Piece) : Type 0 where
   pub known : All (IsKnownPiece pattern) list
   pub pieces : list ≡ pieces_of_sum tree
 
+-- ---- conditions
+
+-- so many names may stand in one `count`
+abbrev pub most_counted : ℕ
+most_counted = 1000
+
+-- a number by which another one is divided isn't 0
+abbrev pub IsNoZero : Option Number → Type 0
+IsNoZero None = Unit {0}
+IsNoZero (Some d) = d.value ≢ 0
+
+-- a value may stand where so many parentheses are open: what has parentheses opens one more
+abbrev pub IsLawfulValue : ℕ → Value → Type 0
+IsLawfulValue opened (values.Number sign n d) = IsNoZero d
+IsLawfulValue opened values.Coefficient = Unit {0}
+IsLawfulValue opened (values.Count names) = (opened < most_open) × (names ≢ []) × (length names ≤ most_counted)
+IsLawfulValue opened (values.Match pattern) = (opened < most_open) × ArePatternWithin (opened + 1) pattern
+IsLawfulValue opened (values.Occurs names) = (opened < most_open) × (names ≢ [])
+
+-- so many parentheses are open where so many more may be opened
+abbrev pub opened_at : ℕ → ℕ
+opened_at deeper = most_open - deeper
+
+-- a value
+pub record IsLawfulAlone (deeper : ℕ) (test : Test) : Type 0 where
+  pub value : Value
+  pub lawful : IsLawfulValue (opened_at deeper) value
+  pub is : test ≡ nonzero value
+
+-- two values
+pub record IsLawfulComparison (deeper : ℕ) (test : Test) : Type 0 where
+  pub value : Value
+  pub comparison : Comparison
+  pub other : Value
+  pub lawful : IsLawfulValue (opened_at deeper) value × IsLawfulValue (opened_at deeper) other
+  pub is : test ≡ compared value comparison other
+
+-- a condition in parentheses
+pub record IsLawfulParenthesis (Lawful : Condition → Type 0) (test : Test) : Type 0 where
+  pub condition : Condition
+  pub lawful : Lawful condition
+  pub is : test ≡ conditions.parenthesis condition
+
+-- some lists of some such tests
+abbrev pub AreLawfulAlternatives : (Test → Type 0) → Condition → Type 0
+AreLawfulAlternatives Lawful c = (c ≢ []) × All (λ tests. (tests ≢ []) × All Lawful tests) c
+
+-- a test may stand where so many more parentheses may be opened
+unfoldable pub IsLawfulTest : ℕ → Test → Type 0
+IsLawfulTest zero test = IsLawfulAlone zero test ⊎ IsLawfulComparison zero test
+IsLawfulTest (suc deeper) test =
+    IsLawfulAlone (suc deeper) test
+    ⊎ (IsLawfulComparison (suc deeper) test ⊎ IsLawfulParenthesis (AreLawfulAlternatives (IsLawfulTest deeper)) test)
+
+-- in the parenthesis of an `if`, which is one, 63 more may be opened
+abbrev pub IsLawfulCondition : Condition → Type 0
+IsLawfulCondition c = AreLawfulAlternatives (IsLawfulTest 63) c
+
+-- ---- statements
+
 abbrev pub IsLawfulStatement : Statement → Type 0
 IsLawfulStatement (Local spelled pieces) = AreLawful pieces
 IsLawfulStatement (Rewrite r) = ArePattern r.pattern × AreRight r.pattern r.right
+IsLawfulStatement (Multiply side pieces) = AreLawful pieces
+IsLawfulStatement (If c) = IsLawfulCondition c
+IsLawfulStatement (ElseIf c) = IsLawfulCondition c
 IsLawfulStatement _ = Unit {0}
 
--- each right side and each pattern is a lawful one
-abbrev pub AreLawfulModules : List (List Placed) → Type 0
-AreLawfulModules modules = All (λ statements. All (λ placed. IsLawfulStatement placed.statement) statements) modules
+-- each right side, pattern and condition in it is a lawful one
+abbrev pub IsLawfulAction : WrittenAction → Type 0
+IsLawfulAction a = All IsLawfulStatement (written a)
+
+abbrev pub IsLawfulBlock : List WrittenAction → Type 0
+IsLawfulBlock b = All IsLawfulAction b
+
+abbrev pub IsLawfulBranch : WrittenBranch → Type 0
+IsLawfulBranch b = IsLawfulCondition b.condition × IsLawfulBlock b.block
+
+abbrev pub IsLawfulPart : PlacedPart → Type 0
+IsLawfulPart p = All IsLawfulStatement (part_written p.part)
+
+abbrev pub IsLawfulModule : List PlacedPart → Type 0
+IsLawfulModule parts = All IsLawfulStatement (parts_written parts)
+
+abbrev pub AreLawfulModules : List (List PlacedPart) → Type 0
+AreLawfulModules modules = All IsLawfulModule modules

@@ -81,9 +81,9 @@ pub enum Piece {
     EndOfDot(Named),
     /// A `d_`, which stands here, begins, as a factor.
     Delta(Link, Spot),
-    /// An argument of `d_`.
+    /// An argument of `d_` that is a name.
     EntryName(Named),
-    /// The same.
+    /// An argument of `d_` that is a number.
     EntryNumber(Number),
     /// A `d_` ends.
     EndOfDelta,

@@ -1,6 +1,9 @@
 ghost use Rattle.std.specs.Prelude.{◌≡◌};
 
-use crate::{Dimension, Expr, IndexList, LongExpr, NameList, NumberList, Spelled};
+use crate::{
+    Condition, Dimension, Expr, IndexList, LongExpr, NameList, NumberList, Numbers, PickedList,
+    Spelled,
+};
 use form_base::{Spot, Taking};
 use std::marker::Model;
 
@@ -20,6 +23,13 @@ pub enum Declared {
 pub enum WrittenElements {
     Names(NameList),
     Numbers(NumberList),
+}
+
+/// From which side a term is multiplied.
+#[derive(Clone, Copy, PartialEq, Eq)]
+pub enum Side {
+    Left,
+    Right,
 }
 
 /// An `id` or an `also`.
@@ -48,6 +58,28 @@ pub enum Statement {
     Skip(NameList),
     Local(Spelled, LongExpr),
     Rewrite(Rewrite),
+    /// A `multiply`: from this side, by this right side.
+    Multiply(Side, Expr),
+    /// A `sum` of indices that become dummies.
+    Sum(NameList),
+    /// A `sum` of an index over these numbers.
+    SumOver(Spelled, Numbers),
+    Discard,
+    /// A block begins: what stands up to its end is repeated. A `repeat` that stands before a single statement or block
+    /// has the end of its block behind that.
+    Repeat,
+    EndRepeat,
+    /// A block begins, with its first branch. An `if` that stands before a single statement or block has the end of its
+    /// block behind that.
+    If(Condition),
+    /// A further branch begins.
+    ElseIf(Condition),
+    /// The last branch begins.
+    Else,
+    EndIf,
+    /// A block begins that takes arguments of these functions, of all where none is written.
+    Argument(PickedList),
+    EndArgument,
     Print(NameList),
 }
 
@@ -56,41 +88,4 @@ pub enum Statement {
 pub struct Placed {
     pub spot: Spot,
     pub statement: Statement,
-}
-
-/// What stands up to a module instruction: in a clause the list of its statements, in the order of the text. Empty
-/// statements are left out.
-#[derive(Drop)]
-pub struct Module {
-    statements: Vec<Placed>,
-}
-
-impl Model for Module {
-    ghost use Rattle.std.specs.Prelude.{List};
-    ghost use Rattle.form_ast.specs.declared.statement.Placed.{Placed};
-
-    ghost Value = { List Placed };
-
-    ghost view = { λ m. m.statements.items };
-}
-
-impl Module {
-    pub fn from_vec(statements: Vec<Placed>) -> Module
-        ensures { result ≡ statements.items }
-    {
-        Module { statements }
-    }
-
-    pub fn as_slice(&self) -> &[Placed]
-        ensures { result.now ≡ self.now }
-    {
-        self.statements.as_slice()
-    }
-
-    pub fn into_vec(self) -> Vec<Placed>
-        ensures { result.items ≡ self }
-    {
-        let Module { statements } = self;
-        statements
-    }
 }

@@ -1,3 +1,4 @@
 pub mod Entries
 pub mod Learning
+pub mod Named
 pub mod Values

@@ -3,7 +3,7 @@ ghost use Rattle.form_term.specs.Term.{is_nil};
 ghost use Rattle.form_bindings.specs.Entries.{IsEntry, binding_in};
 ghost use Rattle.form_bindings.specs.Values.{IsValueOf, is_same_wildcard, value_of};
 
-use crate::{is_same, short};
+use crate::is_same;
 use form_base::Id;
 use form_term::Piece;
 use smallvec::SmallVec;
@@ -16,7 +16,7 @@ pub enum Wildcard {
     /// A symbol, an index, a vector or a function.
     Name(Id),
     /// A field of arguments, by its number among those of the pattern.
-    Field(u32),
+    Field(usize),
 }
 
 /// For how many pieces room is made at first: the values of two symbols or numbers.
@@ -26,8 +26,8 @@ const FIRST_ROOM: usize = 8;
 #[derive(Clone, Copy)]
 struct Entry {
     wildcard: Wildcard,
-    start: u32,
-    end: u32,
+    start: usize,
+    end: usize,
 }
 
 impl Default for Entry {
@@ -98,11 +98,9 @@ impl Bindings {
         ensures put { OnOk result (self.new ≡ self.old ++ binding wildcard value.now ∷ []) }
         ensures unchanged { OnErr result (self.new ≡ self.old) }
     {
-        let from = self.pieces.len();
-        let start = short(from)?;
+        let start = self.pieces.len();
         add(&mut self.pieces, value)?;
-        let to = self.pieces.len();
-        let end = short(to)?;
+        let end = self.pieces.len();
         let entry = Entry {
             wildcard,
             start,
@@ -182,7 +180,7 @@ fn last_end(entries: &[Entry]) -> usize
 {
     let mut last: usize = 0;
     for entry in entries {
-        last = last.max(entry.end as usize);
+        last = last.max(entry.end);
     }
     last
 }
@@ -194,7 +192,7 @@ fn found<'a>(entries: &[Entry], pieces: &'a [Piece], wildcard: &Wildcard) -> Opt
 {
     for entry in entries {
         if entry.is_of(wildcard) {
-            return Some(&pieces[entry.start as usize..entry.end as usize]);
+            return Some(&pieces[entry.start..entry.end]);
         }
     }
     None

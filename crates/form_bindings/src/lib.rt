@@ -2,9 +2,7 @@
 #![tactic(auto)]
 
 mod bindings;
-mod place;
 mod values;
 
 pub use bindings::{Bindings, Wildcard};
-pub use place::short;
 pub use values::is_same;

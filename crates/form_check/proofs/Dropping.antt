@@ -9,6 +9,7 @@ use Rattle.form_check.specs.declared.checked.Selection.{Selection}
 use Rattle.form_right_side.specs.declared.standing.Standing.{Standing}
 use Rattle.form_right_side.specs.Marks.{AreMarksLawful, is_defined_in, stands_in, stays_in}
 use Rattle.form_check.specs.Marks.{AreMarksOf}
+use Rattle.form_check.specs.Program.{Module}
 use Rattle.form_check.specs.Standing.{is_definition, is_drop, means, defines, drops, stands}
 use Rattle.form_right_side.proofs.Loops.{rest}
 
@@ -51,7 +52,7 @@ or-false true = refl
 or-false false = refl
 
 -- the marks once a statement drops what it means
-pub marks-dropped : (old kept : Standing) (earlier : List (List Checked)) (statements : List Checked) (which : Selection) → AreMarksOf old earlier statements → AreMarksLawful kept
+pub marks-dropped : (old kept : Standing) (earlier : List Module) (statements : List Checked) (which : Selection) → AreMarksOf old earlier statements → AreMarksLawful kept
     → ((e : ℕ) → stands_in kept e ≡ stands_in old e) → ((e : ℕ) → is_defined_in kept e ≡ is_defined_in old e) → ((e : ℕ) → stays_in kept e ≡ (stays_in old e && not (means which e)))
     → AreMarksOf kept earlier (statements ++ Drop which ∷ [])
 marks-dropped old kept earlier statements which marks lawful same_standing same_defining staying = record {

@@ -34,7 +34,7 @@ use Rattle.form_right_side.proofs.Binding.{bind-Ok, if-Ok, ok_same}
 some_same : {A : Type 0} {x y : A} → Some x ≡ Some y → x ≡ y
 some_same is = cc
 
-value-fits : (most : ℕ) (n : Number) (value : ℕ) → value_within most n ≡ Ok value → value ≤ most
+pub value-fits : (most : ℕ) (n : Number) (value : ℕ) → value_within most n ≡ Ok value → value ≤ most
 value-fits most n value is =
     let fits = if-Ok (nat_le n.value most) (Ok n.value) _ _ value is in
     let same : n.value ≡ value = ok_same fits.1 in

@@ -1,5 +1,5 @@
 -- A program that is checked is sound.
-use Rattle.std.proofs.Common.{◌≡◌, ℕ, Bool, List, [], ◌∷◌, ◌++◌, All, Some, Result, Ok, sym, subst, ◌∙◌, append_assoc, if◌then◌else◌}
+use Rattle.std.proofs.Common.{◌≡◌, inl, inr, ℕ, length, Bool, List, [], ◌∷◌, ◌++◌, All, Some, Result, Ok, sym, subst, append_assoc, if◌then◌else◌}
 use Rattle.std.proofs.lemmas.List.{append-nil}
 use Rattle.std.proofs.lemmas.List.Elements.{All-nil, All-head, All-tail, All-push, All-weaker}
 use Rattle.form_names.specs.declared.kind.Kind.{Kind}
@@ -10,14 +10,16 @@ use Rattle.form_term.specs.declared.index.Index.TheVariants as indices
 use Rattle.form_names.specs.Names.{Entry, lookup, kind_at}
 use Rattle.form_ast.specs.declared.expr.Spelled.{Spelled}
 use Rattle.form_ast.specs.declared.expr.Expr.{Expr}
-use Rattle.form_ast.specs.declared.statement.Statement.{Statement}
-use Rattle.form_ast.specs.declared.statement.Statement.TheVariants as written
-use Rattle.form_ast.specs.declared.statement.Placed.{Placed}
-use Rattle.form_ast.specs.declared.statement.Rewrite.{Rewrite as WrittenRewrite}
-use Rattle.form_ast.specs.Lawful.{AreLawful, ArePattern, AreRight, IsLawfulStatement, AreLawfulModules}
+use Rattle.form_ast.specs.declared.module.ModulePart.{ModulePart}
+use Rattle.form_ast.specs.declared.module.ModulePart.TheVariants as parts
+use Rattle.form_ast.specs.declared.module.Outer.{Outer}
+use Rattle.form_ast.specs.declared.module.Outer.TheVariants as written
+use Rattle.form_ast.specs.declared.module.PlacedPart.{PlacedPart}
+use Rattle.form_ast.specs.Lawful.{AreLawful, IsLawfulAction, IsLawfulPart, IsLawfulStatement, IsLawfulModule, AreLawfulModules}
+use Rattle.form_ast.specs.Written.{WrittenAction, outer_written, part_written}
+use Rattle.form_ast.proofs.Holding.{lawful_parts}
 use Rattle.form_tree.specs.declared.tree.Piece.{Piece}
 use Rattle.form_tree.specs.declared.tree.Piece.TheVariants as pieces
-use Rattle.form_tree.specs.declared.tree.Tree.{Tree}
 use Rattle.form_tree.specs.declared.tree.Base.{Base}
 use Rattle.form_tree.specs.declared.tree.Base.TheVariants as bases
 use Rattle.form_tree.specs.declared.pattern.Name.{Name}
@@ -28,29 +30,37 @@ use Rattle.form_tree.specs.declared.pattern.Sort.{Sort}
 use Rattle.form_tree.specs.declared.pattern.Sort.TheVariants as sorts
 use Rattle.form_tree.specs.declared.pattern.PatternPiece.{PatternPiece}
 use Rattle.form_tree.specs.declared.pattern.PatternPiece.TheVariants as of_pattern
+use Rattle.form_tree.specs.Conditions.{Parts}
 use Rattle.form_tree.specs.Patterns.{Pieces}
+use Rattle.form_base.specs.Condition.{values_of}
+use Rattle.form_tree.specs.declared.condition.Counted.{Counted}
+use Rattle.form_tree.specs.declared.condition.Counted.TheVariants as counts
+use Rattle.form_tree.specs.declared.condition.Value.{Value}
+use Rattle.form_tree.specs.declared.condition.Value.TheVariants as values
 use Rattle.form_check.specs.declared.checked.Checked.{Checked}
-use Rattle.form_check.specs.declared.checked.Checked.TheVariants.{Drop, Skip, Local, Rewrite, Print}
+use Rattle.form_check.specs.declared.checked.Checked.TheVariants.{Drop, Skip, Local, Print}
+use Rattle.form_check.specs.declared.checked.CheckedLeaf.{CheckedLeaf}
+use Rattle.form_check.specs.declared.checked.CheckedLeaf.TheVariants as leaves
+use Rattle.form_check.specs.declared.checked.Picked.{Picked}
+use Rattle.form_base.specs.Statements.{choices_of, conditions_of, leaves_of}
+use Rattle.form_check.specs.Acting.{action}
 use Rattle.form_check.specs.declared.checked.Rewriting.{Rewriting}
 use Rattle.form_check.specs.declared.checked.Selection.{Selection}
 use Rattle.form_check.specs.declared.checked.Selection.TheVariants as selections
-use Rattle.form_check.specs.Checking.{State, start, ended, with_statement, declared, named, kind_declared, dimension, index, expression, expressions, expression_of, selection, set, definition, rewriting, by_form, statement, class_of, is_defined_again, module_checked, program}
+use Rattle.form_check.specs.Checking.{State, start, ended, with_statement, declared, named, kind_declared, dimension, index, expression, expressions, expression_of, selection, set, definition, with_action, outer, acted, by_form, part, class_of, is_defined_again, module_checked, program}
 use Rattle.form_right_side.specs.Refusal.{Refusal, ◌>>=◌, each}
-use Rattle.form_right_side.specs.RightSide.{Known, nothing_known, found, none_stands, sum, right_side}
+use Rattle.form_right_side.specs.RightSide.{nothing_known, found, none_stands, right_side}
 use Rattle.form_check.specs.Checker.{Keeps}
 use Rattle.form_ast.specs.Building.{tree_of}
 use Rattle.form_ast.specs.Syntax as syntax
-use Rattle.form_tree.specs.Tree.{pieces_of_sum}
-use Rattle.form_check.specs.Program.{Program}
-use Rattle.form_check.specs.Sound.{IsOfKind, IsIndexSound, IsBaseSound, IsPieceSound, IsNameSound, IsIndexNameSound, IsAnySound, IsPatternPieceSound, IsFixedSound, IsPatternSound, IsRewritingSound, IsRightSideSound, IsSelectionSound, IsStatementSound, AreModulesSound, IsSound}
+use Rattle.form_check.specs.Program.{CheckedStatement, Module, Program}
+use Rattle.form_check.specs.Sound.{IsOfKind, IsIndexSound, IsBaseSound, IsPieceSound, IsNameSound, IsIndexNameSound, IsAnySound, IsPatternPieceSound, IsFixedSound, IsPatternSound, IsRewritingSound, IsRightSideSound, IsSelectionSound, IsIndexNamed, IsFunctionNamed, IsPickedSound, IsCountedSound, IsValueSound, IsConditionSound, IsStatementSound, IsLeafSound, AreAllPickedSound, IsActionSound, IsModuleSound, AreModulesSound, IsSound}
 use Rattle.form_check.specs.Standing.{stands}
 use Rattle.form_right_side.proofs.Binding.{bind-Ok, else-Ok, ok_same}
 use Rattle.form_check.proofs.Growing.{declared-Ok, named-keeps, index-keeps, set-keeps, all-keep}
-use Rattle.form_pattern.specs.Pattern.{known_of, pattern_checked}
-use Rattle.form_check.proofs.PatternSound.{pattern-sound}
-use Rattle.form_check.proofs.Pieces.{found-sound, sum-sound}
+use Rattle.form_check.proofs.Pieces.{found-sound}
+use Rattle.form_check.proofs.TreeSound.{action-sound, right_side-Ok}
 use Rattle.form_check.proofs.Lists.{listed-All}
-use Rattle.form_right_side.proofs.Whole.{whole-tree}
 
 -- ---- names that are added change nothing
 
@@ -154,24 +164,73 @@ module _ (old new : List Entry) (grows : Keeps old new) where
     right = right_side-grows none_stands r.right h.right;
   }
 
+  indices-grow : (ids : List ℕ) → All (IsIndexNamed old) ids → All (IsIndexNamed new) ids
+  indices-grow ids h = All-weaker (IsIndexNamed old) (IsIndexNamed new) (λ id k. (k.0, grows id (kinds.Index k.0) k.1)) ids h
+
+  function-grows : (id : ℕ) → IsFunctionNamed old id → IsFunctionNamed new id
+  function-grows id (inl h) = inl (grows id Function h)
+  function-grows id (inr h) = inr (grows id CommutingFunction h)
+
+  picked-grows : (p : Picked) → IsPickedSound old p → IsPickedSound new p
+  picked-grows p h = record { function = function-grows p.function h.function; numbers = h.numbers }
+
+  counted-grows : (c : Counted) → IsCountedSound old c → IsCountedSound new c
+  counted-grows (counts.Symbol id) h = grows id Symbol h
+  counted-grows (counts.Vector id) h = grows id Vector h
+  counted-grows (counts.Function id) h = function-grows id h
+
+  value-grows : (count : ℕ) (v : Value) → IsValueSound old count v → IsValueSound new count v
+  value-grows count (values.Number f) h = tt
+  value-grows count values.Coefficient h = tt
+  value-grows count (values.Count ws) h = All-weaker (λ w. IsCountedSound old w.counted) (λ w. IsCountedSound new w.counted) (λ w k. counted-grows w.counted k) ws h
+  value-grows count (values.Match k) h = h
+  value-grows count (values.Occurs ids) h = tt
+
+  condition-grows : (c : Parts) → IsConditionSound old c → IsConditionSound new c
+  condition-grows c h = record {
+    values = All-weaker (IsValueSound old (length c.patterns)) (IsValueSound new (length c.patterns)) (value-grows (length c.patterns)) (values_of c.alternatives) h.values;
+    patterns = All-weaker (IsPatternSound old) (IsPatternSound new) pattern-grows c.patterns h.patterns;
+  }
+
   statement-grows : (standing : ℕ → Bool) (s : Checked) → IsStatementSound old standing s → IsStatementSound new standing s
   statement-grows standing (Drop which) h = selection-grows which h
   statement-grows standing (Skip which) h = selection-grows which h
   statement-grows standing (Local id right) h = (grows id Expression h.0, right_side-grows standing right h.1)
-  statement-grows standing (Rewrite is_also r) h = rewriting-grows r h
   statement-grows standing (Print which) h = selection-grows which h
 
-  modules-grow : (earlier later : List (List Checked)) → AreModulesSound old earlier later → AreModulesSound new earlier later
+  leaf-grows : (l : CheckedLeaf) → IsLeafSound old l → IsLeafSound new l
+  leaf-grows (leaves.Rewrite rs) h = All-weaker (IsRewritingSound old) (IsRewritingSound new) rewriting-grows rs h
+  leaf-grows (leaves.Multiply side right) h = right_side-grows none_stands right h
+  leaf-grows (leaves.Sum ids) h = indices-grow ids h
+  leaf-grows (leaves.SumOver id values) h = ((h.0.0, grows id (kinds.Index h.0.0) h.0.1), h.1)
+  leaf-grows leaves.Discard h = tt
+
+  choice-grows : (functions : List Picked) → AreAllPickedSound old functions → AreAllPickedSound new functions
+  choice-grows functions h = All-weaker (IsPickedSound old) (IsPickedSound new) picked-grows functions h
+
+  action-grows : (a : CheckedStatement) → IsActionSound old a → IsActionSound new a
+  action-grows a h = record {
+    leaves = All-weaker (IsLeafSound old) (IsLeafSound new) leaf-grows (leaves_of a) h.leaves;
+    conditions = All-weaker (IsConditionSound old) (IsConditionSound new) condition-grows (conditions_of a) h.conditions;
+    choices = All-weaker (AreAllPickedSound old) (AreAllPickedSound new) choice-grows (choices_of a) h.choices;
+  }
+
+  statements-grow : (standing : ℕ → Bool) (list : List Checked) → All (IsStatementSound old standing) list → All (IsStatementSound new standing) list
+  statements-grow standing list h = All-weaker (IsStatementSound old standing) (IsStatementSound new standing) (statement-grows standing) list h
+
+  actions-grow : (list : List CheckedStatement) → All (IsActionSound old) list → All (IsActionSound new) list
+  actions-grow list h = All-weaker (IsActionSound old) (IsActionSound new) action-grows list h
+
+  modules-grow : (earlier later : List Module) → AreModulesSound old earlier later → AreModulesSound new earlier later
   modules-grow earlier [] h = h
   modules-grow earlier (m ∷ rest) h =
-      (All-weaker (IsStatementSound old (stands earlier)) (IsStatementSound new (stands earlier)) (statement-grows (stands earlier)) m h.0, modules-grow (earlier ++ m ∷ []) rest h.1)
+      (record { statements = statements-grow (stands earlier) m.statements h.0.statements; actions = actions-grow m.actions h.0.actions }, modules-grow (earlier ++ m ∷ []) rest h.1)
 
 -- one more module
-modules-push : (names : List Entry) (earlier later : List (List Checked)) (m : List Checked) → AreModulesSound names earlier later → All (IsStatementSound names (stands (earlier ++ later))) m → AreModulesSound names earlier (later ++ m ∷ [])
-modules-push names earlier [] m h each =
-    (subst (λ (before : List (List Checked)). All (IsStatementSound names (stands before)) m) (append-nil earlier) each, tt)
-modules-push names earlier (first ∷ rest) m h each =
-    (h.0, modules-push names (earlier ++ first ∷ []) rest m h.1 (subst (λ (before : List (List Checked)). All (IsStatementSound names (stands before)) m) (sym (append_assoc earlier (first ∷ []) rest)) each))
+modules-push : (names : List Entry) (earlier later : List Module) (m : Module) → AreModulesSound names earlier later → IsModuleSound names (earlier ++ later) m → AreModulesSound names earlier (later ++ m ∷ [])
+modules-push names earlier [] m h sound = (subst (λ (before : List Module). IsModuleSound names before m) (append-nil earlier) sound, tt)
+modules-push names earlier (first ∷ rest) m h sound =
+    (h.0, modules-push names (earlier ++ first ∷ []) rest m h.1 (subst (λ (before : List Module). IsModuleSound names before m) (sym (append_assoc earlier (first ∷ []) rest)) sound))
 
 -- ---- what is made is sound
 
@@ -201,18 +260,21 @@ selection-Ok names (first ∷ rest) which is =
 record IsStateSound (s : State) : Type 0 where
   earlier : AreModulesSound s.names [] s.earlier
   statements : All (IsStatementSound s.names (stands s.earlier)) s.statements
+  actions : All (IsActionSound s.names) s.actions
 
 -- the names of a state grow
 names-grow : (s : State) (names : List Entry) → Keeps s.names names → IsStateSound s → IsStateSound (record s { names = names })
 names-grow s names grows h = record {
   earlier = modules-grow s.names names grows [] s.earlier h.earlier;
-  statements = All-weaker (IsStatementSound s.names (stands s.earlier)) (IsStatementSound names (stands s.earlier)) (statement-grows s.names names grows (stands s.earlier)) s.statements h.statements;
+  statements = statements-grow s.names names grows (stands s.earlier) s.statements h.statements;
+  actions = actions-grow s.names names grows s.actions h.actions;
 }
 
 pushed : (s : State) (more : Checked) → IsStatementSound s.names (stands s.earlier) more → IsStateSound s → IsStateSound (with_statement s more)
 pushed s more is h = record {
   earlier = h.earlier;
   statements = All-push (IsStatementSound s.names (stands s.earlier)) s.statements more h.statements is;
+  actions = h.actions;
 }
 
 selected : (s t : State) (list : List Spelled) (made : Selection → Checked) → ((which : Selection) → IsSelectionSound s.names which → IsStatementSound s.names (stands s.earlier) (made which)) → (selection s.names list >>= (λ which. Ok (with_statement s (made which)))) ≡ Ok t → IsStateSound s → IsStateSound t
@@ -222,15 +284,6 @@ selected s t list made holds is h =
 
 -- where each tree is found again from its pieces
 module _ (law : (tree : syntax.Sum) → tree_of (syntax.pieces_of_sum tree) ≡ Some tree) where
-  right_side-Ok : (names : List Entry) (standing : ℕ → Bool) (known : Known) (right : Expr) (tree : syntax.Sum) (list : Tree) → right ≡ syntax.pieces_of_sum tree → right_side names standing known right ≡ Ok list → IsRightSideSound names standing list
-  right_side-Ok names standing known right tree list same is =
-      let found = bind-Ok (sum names standing known tree) (λ t. Ok (pieces_of_sum t)) list (sym (whole-tree names standing known law right tree same) ∙ is) in
-      record {
-        tree = found.0;
-        pieces = sym (ok_same found.2);
-        each = subst (All (IsPieceSound names standing)) (ok_same found.2) (sum-sound names standing known tree found.0 found.1);
-      }
-
   defined : (s t : State) (spelled : Spelled) (right : Expr) → AreLawful right → definition s spelled right ≡ Ok t → IsStateSound s → IsStateSound t
   defined s t spelled right lawful is h =
       let new = else-Ok (is_defined_again s (lookup s.names spelled.name)) (declared s.names spelled Expression >>= (λ d. right_side d.1 (stands s.earlier) nothing_known right >>= (λ list. Ok (with_statement (record s { names = d.1 }) (Local d.0 list))))) _ _ t is in
@@ -238,21 +291,9 @@ module _ (law : (tree : syntax.Sum) → tree_of (syntax.pieces_of_sum tree) ≡ 
       let names : List Entry = made.0.1 in
       let list = bind-Ok (right_side names (stands s.earlier) nothing_known right) (λ list. Ok (with_statement (record s { names = names }) (Local made.0.0 list))) t made.2 in
       let declares = declared-Ok s.names spelled Expression made.0 made.1 in
-      subst IsStateSound (ok_same list.2) (pushed (record s { names = names }) (Local made.0.0 list.0) (declares.stands, right_side-Ok names (stands s.earlier) nothing_known right lawful.tree list.0 lawful.pieces list.1) (names-grow s names declares.grows h))
+      subst IsStateSound (ok_same list.2) (pushed (record s { names = names }) (Local made.0.0 list.0) (declares.stands, right_side-Ok law names (stands s.earlier) nothing_known right lawful.tree list.0 lawful.pieces list.1) (names-grow s names declares.grows h))
 
-  -- an `id` or an `also`
-  put-in : (s t : State) (r : WrittenRewrite) → ArePattern r.pattern → AreRight r.pattern r.right → rewriting s r ≡ Ok t → IsStateSound s → IsStateSound t
-  put-in s t r of_pattern of_right is h =
-      let known = known_of s.names r.pattern in
-      let made = bind-Ok (pattern_checked s.names r.pattern) (λ made. right_side s.names none_stands known r.right >>= (λ right. Ok (with_statement s (Rewrite r.is_also (record { option = r.option; pattern = made; right = right }))))) t is in
-      let right = bind-Ok (right_side s.names none_stands known r.right) (λ right. Ok (with_statement s (Rewrite r.is_also (record { option = r.option; pattern = made.0; right = right })))) t made.2 in
-      let sound : IsRewritingSound s.names (record { option = r.option; pattern = made.0; right = right.0 }) = record {
-        pattern = pattern-sound s.names law r.pattern of_pattern.tree made.0 of_pattern.pieces made.1;
-        right = right_side-Ok s.names none_stands known r.right of_right.tree right.0 of_right.pieces right.1;
-      } in
-      subst IsStateSound (ok_same right.2) (pushed s (Rewrite r.is_also (record { option = r.option; pattern = made.0; right = right.0 })) sound h)
-
-  formed : (s t : State) (form : Statement) → IsLawfulStatement form → by_form s form ≡ Ok t → IsStateSound s → IsStateSound t
+  formed : (s t : State) (form : Outer) → IsLawfulStatement (outer_written form) → outer s form ≡ Ok t → IsStateSound s → IsStateSound t
   formed s t (written.Names declared list) lawful is h =
       let found = bind-Ok (each (named (kind_declared declared)) s.names list) (λ names. Ok (record s { names = names })) t is in
       subst IsStateSound (ok_same found.2) (names-grow s found.0 (all-keep (named (kind_declared declared)) (named-keeps (kind_declared declared)) list s.names found.0 found.1) h)
@@ -261,7 +302,7 @@ module _ (law : (tree : syntax.Sum) → tree_of (syntax.pieces_of_sum tree) ≡ 
       subst IsStateSound (ok_same found.2) (names-grow s found.0 (all-keep (index s.dimension) (index-keeps s.dimension) list s.names found.0 found.1) h)
   formed s t (written.Dimension d) lawful is h =
       let found = bind-Ok (dimension s.names d) (λ holds. Ok (record s { dimension = holds })) t is in
-      subst IsStateSound (ok_same found.2) (record { earlier = h.earlier; statements = h.statements })
+      subst IsStateSound (ok_same found.2) (record { earlier = h.earlier; statements = h.statements; actions = h.actions })
   formed s t (written.Set name es) lawful is h =
       let found = bind-Ok (set s.names name es) (λ names. Ok (record s { names = names })) t is in
       subst IsStateSound (ok_same found.2) (names-grow s found.0 (set-keeps s.names found.0 name es found.1) h)
@@ -269,13 +310,26 @@ module _ (law : (tree : syntax.Sum) → tree_of (syntax.pieces_of_sum tree) ≡ 
   formed s t (written.Drop list) lawful is h = selected s t list Drop (λ which k. k) is h
   formed s t (written.Skip list) lawful is h = selected s t list Skip (λ which k. k) is h
   formed s t (written.Local spelled right) lawful is h = defined s t spelled right lawful is h
-  formed s t (written.Rewrite r) lawful is h = put-in s t r lawful.0 lawful.1 is h
   formed s t (written.Print list) lawful is h = selected s t list Print (λ which k. k) is h
 
-  stated : (s t : State) (placed : Placed) → IsLawfulStatement placed.statement → statement s placed ≡ Ok t → IsStateSound s → IsStateSound t
+  -- one that is carried out on terms
+  has_acted : (s t : State) (a : WrittenAction) → IsLawfulAction a → acted s a ≡ Ok t → IsStateSound s → IsStateSound t
+  has_acted s t a lawful is h =
+      let made = bind-Ok (action s.names a) (λ made. Ok (with_action s made)) t is in
+      subst IsStateSound (ok_same made.2) (record {
+        earlier = h.earlier;
+        statements = h.statements;
+        actions = All-push (IsActionSound s.names) s.actions made.0 h.actions (action-sound law s.names a made.0 lawful made.1);
+      })
+
+  by_part : (s t : State) (p : ModulePart) → All IsLawfulStatement (part_written p) → by_form s p ≡ Ok t → IsStateSound s → IsStateSound t
+  by_part s t (parts.Outer o) lawful is h = formed s t o (All-head IsLawfulStatement (outer_written o) [] lawful) is h
+  by_part s t (parts.Action a) lawful is h = has_acted s t a lawful is h
+
+  stated : (s t : State) (placed : PlacedPart) → IsLawfulPart placed → part s placed ≡ Ok t → IsStateSound s → IsStateSound t
   stated s t placed lawful is h =
-      let in_order = else-Ok _ (by_form (record s { class = class_of placed.statement }) placed.statement) _ _ t is in
-      formed (record s { class = class_of placed.statement }) t placed.statement lawful in_order.1 (record { earlier = h.earlier; statements = h.statements })
+      let in_order = else-Ok _ (by_form (record s { class = class_of placed.part }) placed.part) _ _ t is in
+      by_part (record s { class = class_of placed.part }) t placed.part lawful in_order.1 (record { earlier = h.earlier; statements = h.statements; actions = h.actions })
 
   -- what each step keeps is kept by all
   each-keeps : {S X : Type 0} (step : S → X → Result S Refusal) (P : S → Type 0) (Q : X → Type 0) → ((s t : S) (x : X) → Q x → step s x ≡ Ok t → P s → P t) → (s t : S) (xs : List X) → All Q xs → each step s xs ≡ Ok t → P s → P t
@@ -284,21 +338,23 @@ module _ (law : (tree : syntax.Sum) → tree_of (syntax.pieces_of_sum tree) ≡ 
       let first = bind-Ok (step s x) (λ next. each step next xs) t is in
       each-keeps step P Q keeps first.0 t xs (All-tail Q x xs all) first.2 (keeps s first.0 x (All-head Q x xs all) first.1 h)
 
-  closed : (s t : State) (list : List Placed) → All (λ placed. IsLawfulStatement placed.statement) list → module_checked s list ≡ Ok t → IsStateSound s → IsStateSound t
+  closed : (s t : State) (list : List PlacedPart) → IsLawfulModule list → module_checked s list ≡ Ok t → IsStateSound s → IsStateSound t
   closed s t list lawful is h =
-      let after = bind-Ok (each statement s list) (λ next. Ok (ended next)) t is in
-      let sound = each-keeps statement IsStateSound (λ placed. IsLawfulStatement placed.statement) stated s after.0 list lawful after.1 h in
+      let after = bind-Ok (each part s list) (λ next. Ok (ended next)) t is in
+      let sound = each-keeps part IsStateSound IsLawfulPart stated s after.0 list (lawful_parts list lawful) after.1 h in
+      let m : Module = record { statements = after.0.statements; actions = after.0.actions } in
       subst IsStateSound (ok_same after.2) (record {
-        earlier = modules-push after.0.names [] after.0.earlier after.0.statements sound.earlier sound.statements;
-        statements = All-nil (IsStatementSound after.0.names (stands (after.0.earlier ++ after.0.statements ∷ [])));
+        earlier = modules-push after.0.names [] after.0.earlier m sound.earlier (record { statements = sound.statements; actions = sound.actions });
+        statements = All-nil (IsStatementSound after.0.names (stands (after.0.earlier ++ m ∷ [])));
+        actions = All-nil (IsActionSound after.0.names);
       })
 
-  pub sound : (modules : List (List Placed)) (s : State) → AreLawfulModules modules → each module_checked start modules ≡ Ok s → AreModulesSound s.names [] s.earlier
+  pub sound : (modules : List (List PlacedPart)) (s : State) → AreLawfulModules modules → each module_checked start modules ≡ Ok s → AreModulesSound s.names [] s.earlier
   sound modules s lawful is =
-      let all = each-keeps module_checked IsStateSound (λ list. All (λ placed. IsLawfulStatement placed.statement) list) closed start s modules lawful is (record { earlier = tt; statements = All-nil (IsStatementSound [] (stands [])) }) in
+      let all = each-keeps module_checked IsStateSound IsLawfulModule closed start s modules lawful is (record { earlier = tt; statements = All-nil (IsStatementSound [] (stands [])); actions = All-nil (IsActionSound []) }) in
       all.earlier
 
-  pub checked_is_sound : (modules : List (List Placed)) (checked : Program) → AreLawfulModules modules → program modules ≡ Ok checked → IsSound checked
+  pub checked_is_sound : (modules : List (List PlacedPart)) (checked : Program) → AreLawfulModules modules → program modules ≡ Ok checked → IsSound checked
   checked_is_sound modules checked lawful is =
       let state = bind-Ok (each module_checked start modules) (λ s. Ok (record { names = s.names; modules = s.earlier })) checked is in
       subst IsSound (ok_same state.2) (sound modules state.0 lawful state.1)

@@ -14,6 +14,7 @@ state_of checker = record {
   dimension = checker.dimension;
   earlier = checker.modules.items;
   statements = checker.statements.items;
+  actions = checker.actions;
   class = checker.class;
 }
 

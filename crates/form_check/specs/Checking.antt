@@ -12,21 +12,23 @@ use Rattle.form_ast.specs.declared.expr.Expr.{Expr}
 use Rattle.form_ast.specs.declared.index_list.Dimension as written_dimension
 use Rattle.form_ast.specs.declared.index_list.Dimension.TheVariants as by_dimension
 use Rattle.form_ast.specs.declared.index_list.SpelledIndex.{SpelledIndex}
+use Rattle.form_ast.specs.declared.module.ModulePart.{ModulePart}
+use Rattle.form_ast.specs.declared.module.ModulePart.TheVariants as parts
+use Rattle.form_ast.specs.declared.module.Outer.{Outer}
+use Rattle.form_ast.specs.declared.module.Outer.TheVariants as written
+use Rattle.form_ast.specs.declared.module.PlacedPart.{PlacedPart}
 use Rattle.form_ast.specs.declared.statement.Declared.{Declared}
 use Rattle.form_ast.specs.declared.statement.Declared.TheVariants.{Symbols, Vectors, Functions, CFunctions}
-use Rattle.form_ast.specs.declared.statement.Statement.{Statement}
-use Rattle.form_ast.specs.declared.statement.Statement.TheVariants as written
-use Rattle.form_ast.specs.declared.statement.Placed.{Placed}
-use Rattle.form_ast.specs.declared.statement.Rewrite as written_rewrite
 use Rattle.form_ast.specs.declared.statement.WrittenElements.{WrittenElements}
+use Rattle.form_ast.specs.Written.{WrittenAction}
 use Rattle.form_check.specs.declared.checked.Checked.{Checked}
-use Rattle.form_check.specs.declared.checked.Checked.TheVariants.{Drop, Skip, Local, Rewrite, Print}
+use Rattle.form_check.specs.declared.checked.Checked.TheVariants.{Drop, Skip, Local, Print}
+use Rattle.form_check.specs.Acting.{action}
 use Rattle.form_check.specs.declared.checked.Selection.{Selection}
 use Rattle.form_check.specs.declared.checked.Selection.TheVariants as selections
-use Rattle.form_check.specs.Program.{Program}
+use Rattle.form_check.specs.Program.{CheckedStatement, Module, Program}
 use Rattle.form_right_side.specs.Refusal.{Refusal, refused, ◌>>=◌, each, listed}
-use Rattle.form_right_side.specs.RightSide.{value_within, found, wrong_kind, right_side, nothing_known, none_stands}
-use Rattle.form_pattern.specs.Pattern.{pattern_checked, known_of}
+use Rattle.form_right_side.specs.RightSide.{value_within, found, wrong_kind, right_side, nothing_known}
 use Rattle.form_pattern.specs.Sets.{elements}
 use Rattle.form_check.specs.Standing.{defines, stands}
 
@@ -128,26 +130,29 @@ selection names (first ∷ rest) = do
 pub record State : Type 0 where
   pub names : List Entry
   pub dimension : Dimension
-  pub earlier : List (List Checked)
+  pub earlier : List Module
   pub statements : List Checked
+  pub actions : List CheckedStatement
   pub class : ℕ
 
 -- declarations, what is dropped or skipped, definitions, what is carried out, output: in this order they stand in a module
-abbrev pub class_of : Statement → ℕ
-class_of (written.Names declared names) = 1
-class_of (written.Indices indices) = 1
-class_of (written.Dimension d) = 1
-class_of (written.Set s es) = 1
-class_of written.Statistics = 1
-class_of (written.Drop names) = 2
-class_of (written.Skip names) = 2
-class_of (written.Local name right) = 3
-class_of (written.Rewrite r) = 4
-class_of (written.Print names) = 5
+abbrev pub class_of_outer : Outer → ℕ
+class_of_outer (written.Drop names) = 2
+class_of_outer (written.Skip names) = 2
+class_of_outer (written.Local name right) = 3
+class_of_outer (written.Print names) = 5
+class_of_outer declaration = 1
+
+abbrev pub class_of : ModulePart → ℕ
+class_of (parts.Outer statement) = class_of_outer statement
+class_of (parts.Action statement) = 4
 
 -- the state with one more statement
 abbrev pub with_statement : State → Checked → State
 with_statement state statement = record state { statements = state.statements ++ statement ∷ [] }
+
+abbrev pub with_action : State → CheckedStatement → State
+with_action state statement = record state { actions = state.actions ++ statement ∷ [] }
 
 -- an expression is defined once in a module
 abbrev pub is_defined_again : State → Option ℕ → Bool
@@ -163,61 +168,64 @@ definition state spelled right =
       pieces ← right_side declaration.1 (stands state.earlier) nothing_known right
       Ok (with_statement (record state { names = declaration.1 }) (Local declaration.0 pieces)))
 
--- An `id` or an `also`: its pattern, and then its right side, in which no expression is named.
-abbrev pub rewriting : State → written_rewrite.Rewrite → Result State Refusal
-rewriting state r = do
-  made ← pattern_checked state.names r.pattern
-  right ← right_side state.names none_stands (known_of state.names r.pattern) r.right
-  Ok (with_statement state (Rewrite r.is_also (record { option = r.option; pattern = made; right = right })))
-
-abbrev pub by_form : State → Statement → Result State Refusal
-by_form state (written.Names declared list) = do
+-- a statement that stands in no block
+abbrev pub outer : State → Outer → Result State Refusal
+outer state (written.Names declared list) = do
   names ← each (named (kind_declared declared)) state.names list
   Ok (record state { names = names })
-by_form state (written.Indices list) = do
+outer state (written.Indices list) = do
   names ← each (index state.dimension) state.names list
   Ok (record state { names = names })
-by_form state (written.Dimension d) = do
+outer state (written.Dimension d) = do
   holds ← dimension state.names d
   Ok (record state { dimension = holds })
-by_form state (written.Set s es) = do
+outer state (written.Set s es) = do
   names ← set state.names s es
   Ok (record state { names = names })
-by_form state written.Statistics = Ok state
-by_form state (written.Drop list) = do
+outer state written.Statistics = Ok state
+outer state (written.Drop list) = do
   which ← selection state.names list
   Ok (with_statement state (Drop which))
-by_form state (written.Skip list) = do
+outer state (written.Skip list) = do
   which ← selection state.names list
   Ok (with_statement state (Skip which))
-by_form state (written.Local spelled right) = definition state spelled right
-by_form state (written.Rewrite r) = rewriting state r
-by_form state (written.Print list) = do
+outer state (written.Local spelled right) = definition state spelled right
+outer state (written.Print list) = do
   which ← selection state.names list
   Ok (with_statement state (Print which))
 
--- A statement: its class may not be below that of an earlier one of its module.
-abbrev pub statement : State → Placed → Result State Refusal
-statement state placed =
-    if nat_lt (class_of placed.statement) state.class then refused StatementOrder placed.spot else by_form (record state { class = class_of placed.statement }) placed.statement
+-- a statement that is carried out on terms
+abbrev pub acted : State → WrittenAction → Result State Refusal
+acted state statement = do
+  made ← action state.names statement
+  Ok (with_action state made)
+
+abbrev pub by_form : State → ModulePart → Result State Refusal
+by_form state (parts.Outer statement) = outer state statement
+by_form state (parts.Action statement) = acted state statement
+
+-- A statement of a module: its class may not be below that of an earlier one.
+abbrev pub part : State → PlacedPart → Result State Refusal
+part state placed =
+    if nat_lt (class_of placed.part) state.class then refused StatementOrder placed.spot else by_form (record state { class = class_of placed.part }) placed.part
 
 -- ---- modules
 
 -- before the first module
 abbrev pub start : State
-start = record { names = []; dimension = dimensions.Number 4; earlier = []; statements = []; class = 0 }
+start = record { names = []; dimension = dimensions.Number 4; earlier = []; statements = []; actions = []; class = 0 }
 
 -- after a module
 abbrev pub ended : State → State
-ended state = record { names = state.names; dimension = state.dimension; earlier = state.earlier ++ state.statements ∷ []; statements = []; class = 0 }
+ended state = record state { earlier = state.earlier ++ record { statements = state.statements; actions = state.actions } ∷ []; statements = []; actions = []; class = 0 }
 
-abbrev pub module_checked : State → List Placed → Result State Refusal
+abbrev pub module_checked : State → List PlacedPart → Result State Refusal
 module_checked state statements = do
-  after ← each statement state statements
+  after ← each part state statements
   Ok (ended after)
 
 -- a whole text
-abbrev pub program : List (List Placed) → Result Program Refusal
+abbrev pub program : List (List PlacedPart) → Result Program Refusal
 program modules = do
   state ← each module_checked start modules
   Ok (record { names = state.names; modules = state.earlier })

@@ -1,5 +1,8 @@
+pub mod Acting
+pub mod Carried
 pub mod Checker
 pub mod Checking
+pub mod Faults
 pub mod Marks
 pub mod Program
 pub mod Sound

@@ -1,5 +1,5 @@
 -- What holds of every program that is checked.
-use Rattle.std.specs.Prelude.{◌≡◌, ℕ, ◌≤◌, nat_abs, Bool, IsTrue, List, [], ◌∷◌, ◌++◌, All, Some, if◌then◌else◌}
+use Rattle.std.specs.Prelude.{◌≡◌, ◌⊎◌, ℕ, ◌<◌, ◌≤◌, nat_abs, length, Bool, IsTrue, List, [], ◌∷◌, ◌++◌, All, Some, if◌then◌else◌}
 use Rattle.form_names.specs.declared.kind.Kind.{Kind}
 use Rattle.form_names.specs.declared.kind.Dimension.{Dimension}
 use Rattle.form_names.specs.declared.kind.Kind.TheVariants as kinds
@@ -22,11 +22,21 @@ use Rattle.form_tree.specs.Pattern.{Factors, pieces_of_factors}
 use Rattle.form_tree.specs.Patterns.{Pieces}
 use Rattle.form_tree.specs.Tree.{Sum, Argument, pieces_of_sum, pieces_of_argument}
 use Rattle.form_check.specs.declared.checked.Checked.{Checked}
-use Rattle.form_check.specs.declared.checked.Checked.TheVariants.{Drop, Skip, Local, Rewrite, Print}
+use Rattle.form_check.specs.declared.checked.Checked.TheVariants.{Drop, Skip, Local, Print}
+use Rattle.form_check.specs.declared.checked.CheckedLeaf.{CheckedLeaf}
+use Rattle.form_check.specs.declared.checked.CheckedLeaf.TheVariants as leaves
+use Rattle.form_check.specs.declared.checked.Picked.{Picked}
+use Rattle.form_tree.specs.declared.condition.Counted.{Counted}
+use Rattle.form_tree.specs.declared.condition.Counted.TheVariants as counts
+use Rattle.form_tree.specs.declared.condition.Value.{Value}
+use Rattle.form_tree.specs.declared.condition.Value.TheVariants as values
+use Rattle.form_base.specs.Condition.{values_of}
+use Rattle.form_base.specs.Statements.{choices_of, conditions_of, leaves_of}
+use Rattle.form_tree.specs.Conditions.{Parts}
 use Rattle.form_check.specs.declared.checked.Rewriting.{Rewriting}
 use Rattle.form_check.specs.declared.checked.Selection.{Selection}
 use Rattle.form_check.specs.declared.checked.Selection.TheVariants as selections
-use Rattle.form_check.specs.Program.{Program}
+use Rattle.form_check.specs.Program.{CheckedStatement, Module, Program}
 use Rattle.form_right_side.specs.RightSide.{largest_number, largest_exponent, largest_power, largest_index, none_stands}
 use Rattle.form_check.specs.Standing.{stands}
 
@@ -141,20 +151,70 @@ abbrev pub IsSelectionSound : List Entry → Selection → Type 0
 IsSelectionSound names selections.All = Unit {0}
 IsSelectionSound names (selections.Named ids) = All (IsOfKind kinds.Expression names) ids
 
--- a statement of a module at whose start these expressions stand
+-- an index
+abbrev pub IsIndexNamed : List Entry → ℕ → Type 0
+IsIndexNamed names id = (d : Dimension) × IsOfKind (kinds.Index d) names id
+
+-- a function, commuting or not, and numbers of arguments from 1
+abbrev pub IsFunctionNamed : List Entry → ℕ → Type 0
+IsFunctionNamed names id = IsOfKind kinds.Function names id ⊎ IsOfKind kinds.CommutingFunction names id
+
+pub record IsPickedSound (names : List Entry) (p : Picked) : Type 0 where
+  pub function : IsFunctionNamed names p.function
+  pub numbers : All (λ n. 1 ≤ n) p.numbers
+
+-- what is counted is of its kind
+abbrev pub IsCountedSound : List Entry → Counted → Type 0
+IsCountedSound names (counts.Symbol id) = IsOfKind kinds.Symbol names id
+IsCountedSound names (counts.Vector id) = IsOfKind kinds.Vector names id
+IsCountedSound names (counts.Function id) = IsFunctionNamed names id
+
+-- a value of a condition with so many patterns
+abbrev pub IsValueSound : List Entry → ℕ → Value → Type 0
+IsValueSound names count (values.Count ws) = All (λ w. IsCountedSound names w.counted) ws
+IsValueSound names count (values.Match k) = k < count
+IsValueSound names count v = Unit {0}
+
+-- a condition
+pub record IsConditionSound (names : List Entry) (c : Parts) : Type 0 where
+  pub values : All (IsValueSound names (length c.patterns)) (values_of c.alternatives)
+  pub patterns : All (IsPatternSound names) c.patterns
+
+-- a statement that stands in no block, of a module at whose start these expressions stand
 abbrev pub IsStatementSound : List Entry → (ℕ → Bool) → Checked → Type 0
 IsStatementSound names stands (Drop which) = IsSelectionSound names which
 IsStatementSound names stands (Skip which) = IsSelectionSound names which
 IsStatementSound names stands (Local id right) =
     IsOfKind kinds.Expression names id × IsRightSideSound names stands right
-IsStatementSound names stands (Rewrite is_also r) = IsRewritingSound names r
 IsStatementSound names stands (Print which) = IsSelectionSound names which
 
+-- one that is carried out on terms, and is no block
+abbrev pub IsLeafSound : List Entry → CheckedLeaf → Type 0
+IsLeafSound names (leaves.Rewrite rs) = All (IsRewritingSound names) rs
+IsLeafSound names (leaves.Multiply side right) = IsRightSideSound names none_stands right
+IsLeafSound names (leaves.Sum ids) = All (IsIndexNamed names) ids
+IsLeafSound names (leaves.SumOver id values) = IsIndexNamed names id × All (λ n. n ≤ largest_index) values
+IsLeafSound names leaves.Discard = Unit {0}
+
+-- the functions of an `argument`
+abbrev pub AreAllPickedSound : List Entry → List Picked → Type 0
+AreAllPickedSound names functions = All (IsPickedSound names) functions
+
+-- one that is carried out on terms, with all that stands in its blocks
+pub record IsActionSound (names : List Entry) (a : CheckedStatement) : Type 0 where
+  pub leaves : All (IsLeafSound names) (leaves_of a)
+  pub conditions : All (IsConditionSound names) (conditions_of a)
+  pub choices : All (AreAllPickedSound names) (choices_of a)
+
+-- a module behind others
+pub record IsModuleSound (names : List Entry) (earlier : List Module) (m : Module) : Type 0 where
+  pub statements : All (IsStatementSound names (stands earlier)) m.statements
+  pub actions : All (IsActionSound names) m.actions
+
 -- the modules that come after others
-abbrev pub AreModulesSound : List Entry → List (List Checked) → List (List Checked) → Type 0
+abbrev pub AreModulesSound : List Entry → List Module → List Module → Type 0
 AreModulesSound names earlier [] = Unit {0}
-AreModulesSound names earlier (statements ∷ later) =
-    All (IsStatementSound names (stands earlier)) statements × AreModulesSound names (earlier ++ statements ∷ []) later
+AreModulesSound names earlier (m ∷ later) = IsModuleSound names earlier m × AreModulesSound names (earlier ++ m ∷ []) later
 
 abbrev pub IsSound : Program → Type 0
 IsSound program = AreModulesSound program.names [] program.modules

@@ -1,25 +1,25 @@
 ghost use Rattle.std.specs.Prelude.{◌≡◌, ◌+◌, ◌<◌, ◌≤◌, ◌^◌, ◌++◌, [], ◌∷◌, length, All, OnOk, IfOk, IfErr};
-ghost use Rattle.form_ast.specs.Lawful.{AreLawful, ArePattern, AreRight, IsLawfulStatement, AreLawfulModules};
+ghost use Rattle.form_ast.specs.Lawful.{AreLawful, IsLawfulAction, IsLawfulPart, IsLawfulStatement, AreLawfulModules};
+ghost use Rattle.form_ast.specs.Written.{outer_written};
 ghost use Rattle.form_check.specs.Checker.{state_of, IsConsistent};
-ghost use Rattle.form_check.specs.Checking as checking;
-ghost use Rattle.form_check.specs.Checking.{definition, is_defined_again, module_checked, program, rewriting, start, with_statement, most_names};
+ghost use Rattle.form_check.specs.Checking.{acted, class_of as class_of_part, class_of_outer as class_of_statement, definition, is_defined_again, module_checked, outer as outer_checked, part as part_checked, program, start, with_statement, most_names};
 ghost use Rattle.form_right_side.specs.Marks.{current_in};
 ghost use Rattle.form_check.specs.Marks.{AreMarksOf};
 ghost use Rattle.form_right_side.specs.Refusal.{Gives};
-ghost use Rattle.form_right_side.specs.RightSide.{nothing_known};
 ghost use Rattle.form_check.specs.Sound.{IsSound};
 ghost use Rattle.form_names.specs.Names.{lookup, IsDimension};
 
+use crate::acting::{action, nothing};
 use crate::naming::{
     declare, declare_indices, declare_names, declare_set, dimension, selection_of,
 };
 use crate::standing::drop_selected;
-use crate::{CheckError, Checked, Module, Program, Rewriting};
-use form_ast::{LongExpr, Placed, Rewrite, Spelled, Statement};
+use crate::{CheckError, Checked, CheckedBlock, Module, Program};
+use form_ast::{LongExpr, ModulePart, Outer, PlacedPart, Spelled, WrittenAction};
 use form_base::Cause;
 use form_names::{Dimension, Kind, Names};
-use form_pattern::{known_of, pattern};
-use form_right_side::{Known, Standing, copy_of, right_side, right_side_of_pattern};
+use form_right_side::{Standing, copy_of, right_side};
+use sqlite_items::Items;
 use std::alloc::Global;
 use std::mem;
 
@@ -45,8 +45,10 @@ struct Checker {
     dimension: Dimension,
     standing: Standing,
     modules: Vec<Module>,
-    /// Those of the module that is checked.
+    /// Those of the module that is checked that stand in no block.
     statements: Vec<Checked>,
+    /// Those of it that are carried out on terms.
+    actions: CheckedBlock,
     /// The highest class of the module's statements, 0 before the first.
     class: u8,
 }
@@ -63,68 +65,97 @@ impl Checker {
             standing: Standing::new(alloc),
             modules: Vec::new(alloc),
             statements: Vec::new(alloc),
+            actions: Items::new(alloc),
             class: 0,
         }
     }
 
     fn module(&mut self, alloc: Global, written: form_ast::Module) -> Result<(), CheckError>
         requires consistent { IsConsistent self.old }
-        requires lawful { All (λ placed. IsLawfulStatement placed.statement) written }
+        requires lawful { All IsLawfulPart written }
         requires room { current_in self.old.standing + 1 < 2 ^ 64 }
         ensures checked { Gives (λ _. state_of self.new) result (module_checked (state_of self.old) written) }
         ensures consistent { OnOk result (IsConsistent self.new) }
         ensures current { OnOk result (current_in self.new.standing ≡ current_in self.old.standing + 1) }
     {
         for placed in written.into_vec() {
-            self.statement(alloc, placed)?;
+            self.part(alloc, placed)?;
         }
         let statements = mem::replace(&mut self.statements, Vec::new(alloc));
-        self.modules.push(Module::from_vec(statements))?;
+        let actions = mem::replace(&mut self.actions, Items::new(alloc));
+        self.modules.push(Module::new(statements, actions))?;
         self.standing.end_module();
         self.class = 0;
         Ok(())
     }
 
-    fn statement(&mut self, alloc: Global, placed: Placed) -> Result<(), CheckError>
+    /// A statement of a module, with the blocks in it.
+    fn part(&mut self, alloc: Global, placed: PlacedPart) -> Result<(), CheckError>
         requires consistent { IsConsistent self.old }
-        requires lawful { IsLawfulStatement placed.statement }
-        ensures checked { Gives (λ _. state_of self.new) result (checking.statement (state_of self.old) placed) }
+        requires lawful { IsLawfulPart placed }
+        ensures checked { Gives (λ _. state_of self.new) result (part_checked (state_of self.old) placed) }
         ensures consistent { OnOk result (IsConsistent self.new) }
         ensures current { OnOk result (current_in self.new.standing ≡ current_in self.old.standing) }
     {
-        let Placed { spot, statement } = placed;
-        let class = class_of(&statement);
+        let PlacedPart { spot, part } = placed;
+        let class = class_of(&part);
         if class < self.class {
             return Err(CheckError::Refused(Cause::StatementOrder, spot));
         }
         self.class = class;
+        match part {
+            ModulePart::Outer(statement) => self.outer(alloc, statement),
+            ModulePart::Action(statement) => self.act(alloc, &statement),
+        }
+    }
+
+    /// A statement that is carried out on terms.
+    fn act(&mut self, alloc: Global, statement: &WrittenAction) -> Result<(), CheckError>
+        requires consistent { IsConsistent self.old }
+        requires lawful { IsLawfulAction statement.now }
+        ensures checked { Gives (λ _. state_of self.new) result (acted (state_of self.old) statement.now) }
+        ensures consistent { OnOk result (IsConsistent self.new) }
+        ensures current { OnOk result (current_in self.new.standing ≡ current_in self.old.standing) }
+    {
+        let made = action(alloc, &self.names, &self.standing, statement)?;
+        self.actions.push(made)?;
+        Ok(())
+    }
+
+    /// A statement that stands in no block.
+    fn outer(&mut self, alloc: Global, statement: Outer) -> Result<(), CheckError>
+        requires consistent { IsConsistent self.old }
+        requires lawful { IsLawfulStatement (outer_written statement) }
+        ensures checked { Gives (λ _. state_of self.new) result (outer_checked (state_of self.old) statement) }
+        ensures consistent { OnOk result (IsConsistent self.new) }
+        ensures current { OnOk result (current_in self.new.standing ≡ current_in self.old.standing) }
+    {
         match statement {
-            Statement::Names(declared, list) => {
+            Outer::Names(declared, list) => {
                 declare_names(alloc, &mut self.names, declared, list.as_slice())
             }
-            Statement::Indices(list) => {
+            Outer::Indices(list) => {
                 declare_indices(alloc, &mut self.names, &self.dimension, list.as_slice())
             }
-            Statement::Dimension(written) => {
+            Outer::Dimension(written) => {
                 self.dimension = dimension(alloc, &self.names, &written)?;
                 Ok(())
             }
-            Statement::Set(spelled, elements) => {
+            Outer::Set(spelled, elements) => {
                 declare_set(alloc, &mut self.names, &spelled, &elements)
             }
-            Statement::Statistics => Ok(()),
-            Statement::Drop(list) => {
+            Outer::Statistics => Ok(()),
+            Outer::Drop(list) => {
                 let which = selection_of(alloc, &self.names, list.as_slice())?;
                 drop_selected(&mut self.standing, &which)?;
                 self.keep(Checked::Drop(which))
             }
-            Statement::Skip(list) => {
+            Outer::Skip(list) => {
                 let which = selection_of(alloc, &self.names, list.as_slice())?;
                 self.keep(Checked::Skip(which))
             }
-            Statement::Local(spelled, right) => self.define(alloc, &spelled, right),
-            Statement::Rewrite(rewrite) => self.rewrite(alloc, &rewrite),
-            Statement::Print(list) => {
+            Outer::Local(spelled, right) => self.define(alloc, &spelled, right),
+            Outer::Print(list) => {
                 let which = selection_of(alloc, &self.names, list.as_slice())?;
                 self.keep(Checked::Print(which))
             }
@@ -155,37 +186,6 @@ impl Checker {
         self.keep(Checked::Local(id, tree))
     }
 
-    /// An `id` or an `also`.
-    fn rewrite(&mut self, alloc: Global, rewrite: &Rewrite) -> Result<(), CheckError>
-        requires consistent { IsConsistent self.old }
-        requires pattern { ArePattern rewrite.now.pattern }
-        requires right { AreRight rewrite.now.pattern rewrite.now.right }
-        ensures checked { Gives (λ _. state_of self.new) result (rewriting (state_of self.old) rewrite.now) }
-        ensures consistent { OnOk result (IsConsistent self.new) }
-        ensures current { OnOk result (current_in self.new.standing ≡ current_in self.old.standing) }
-    {
-        let written = rewrite.pattern.as_slice();
-        let known = known_of(alloc, &self.names, written)?;
-        let pattern = pattern(alloc, &self.names, &self.standing, &known, written)?;
-        let right = right_side_of_pattern(
-            alloc,
-            &self.names,
-            &self.standing,
-            &known,
-            written,
-            rewrite.right.as_slice(),
-        )?;
-        let option = rewrite.option;
-        self.keep(Checked::Rewrite(
-            rewrite.is_also,
-            Rewriting {
-                option,
-                pattern,
-                right,
-            },
-        ))
-    }
-
     /// Whether the module has defined an expression of this name.
     fn has_defined(&self, name: &str) -> bool
         requires { IsConsistent self.now }
@@ -212,27 +212,28 @@ impl Checker {
     }
 }
 
-/// What a right side knows that has no pattern.
-fn nothing(alloc: Global) -> Known
-    ensures { result ≡ nothing_known }
-{
-    Known::new(Vec::new(alloc), Vec::new(alloc))
-}
-
 /// The place of a statement in a module: declarations, what is dropped or skipped, definitions,
 /// what is carried out, output.
-fn class_of(statement: &Statement) -> u8
-    ensures { result ≡ checking.class_of statement.now }
+fn class_of(part: &ModulePart) -> u8
+    ensures { result ≡ class_of_part part.now }
+{
+    match part {
+        ModulePart::Outer(statement) => class_of_outer(statement),
+        ModulePart::Action(_) => 4,
+    }
+}
+
+fn class_of_outer(statement: &Outer) -> u8
+    ensures { result ≡ class_of_statement statement.now }
 {
     match statement {
-        Statement::Names(_, _)
-        | Statement::Indices(_)
-        | Statement::Dimension(_)
-        | Statement::Set(_, _)
-        | Statement::Statistics => 1,
-        Statement::Drop(_) | Statement::Skip(_) => 2,
-        Statement::Local(_, _) => 3,
-        Statement::Rewrite(_) => 4,
-        Statement::Print(_) => 5,
+        Outer::Names(_, _)
+        | Outer::Indices(_)
+        | Outer::Dimension(_)
+        | Outer::Set(_, _)
+        | Outer::Statistics => 1,
+        Outer::Drop(_) | Outer::Skip(_) => 2,
+        Outer::Local(_, _) => 3,
+        Outer::Print(_) => 5,
     }
 }

@@ -2,28 +2,23 @@ ghost use Rattle.std.specs.Prelude.{◌≡◌};
 
 use crate::Module;
 use form_names::Names;
-use std::marker::Model;
+use sqlite_items::Items;
 
-/// A checked program: its names, and its modules over their Ids.
+/// A checked program: its names, in the order of declaration, and its modules over their Ids, in the order of the text.
 #[derive(Drop)]
 pub struct Program {
-    names: Names,
-    modules: Vec<Module>,
-}
-
-impl Model for Program {
-    ghost use Rattle.form_check.specs.Program.{Program as TheProgram};
-
-    ghost Value = { TheProgram };
-
-    ghost view = { λ p. record { names = p.names; modules = p.modules.items } };
+    pub names: Names,
+    pub modules: Items<Module>,
 }
 
 impl Program {
     pub fn new(names: Names, modules: Vec<Module>) -> Program
         ensures { result ≡ record { names = names; modules = modules.items } }
     {
-        Program { names, modules }
+        Program {
+            names,
+            modules: Items::from_vec(modules),
+        }
     }
 
     pub fn names(&self) -> &Names

@@ -3,10 +3,12 @@ pub mod Digits
 pub mod Lists
 pub mod Members
 pub mod Places
+pub mod Rising
 pub mod ShortLists
 pub mod Sorted
 pub mod Standing
 pub mod Stands
+pub mod Summands
 pub mod Sums
 pub mod Ties
 pub mod Zero

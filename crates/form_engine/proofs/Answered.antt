@@ -1,29 +1,24 @@
 -- What the status that a call answers says of what was to be done.
-use Rattle.std.proofs.Common.{◌≡◌, ◌≢◌, ◌≤◌, ◌<◌, ℕ, arith, List, [], Option, Result, Ok, Err, IfOk, sym, subst, ap, ◌∙◌, refl, inl, inr}
-use Rattle.form_base.specs.declared.settings.Settings.{Settings}
+use Rattle.std.proofs.Common.{◌≡◌, ◌≢◌, ◌≤◌, ◌<◌, ℕ, arith, List, Option, Result, Ok, Err, IfOk, sym, subst, ap, ◌∙◌, refl, inl, inr}
 use Rattle.form_base.specs.declared.status.Status.{Status}
 use Rattle.form_base.specs.declared.status.Status.TheVariants.{Usage, Missing, TextTooLong}
 use Rattle.form_base.specs.Status.{code_of}
-use Rattle.form_check.specs.Program.{Program}
 use Rattle.form_outside.specs.Faults.{HasRisen, last_count}
 use Rattle.form_engine.specs.Answer.{IsAnswerOutcome, IsEarly, Carries, nothing_more}
 use Rattle.form_engine.specs.Call.{IsStop}
-use Rattle.form_engine.specs.Outcome.{Outcome, IsProgramOutcome, refused}
+use Rattle.form_engine.specs.Outcome.{Outcome, refused}
 use Rattle.form_engine.specs.Stop.{ending}
 use Rattle.form_engine.specs.declared.answer.Answer.{Answer}
 use Rattle.form_engine.specs.declared.answer.Answer.TheVariants.{Runs, Refused}
 use Rattle.form_engine.specs.declared.stop.Stop.{Stop}
 use Rattle.form_engine.specs.declared.stop.Stop.TheVariants.{Library, Sink, Memory}
 use Rattle.form_engine.proofs.Carried.{risen}
-use Rattle.form_engine.proofs.Refusals.{IsOfRun, of_modules}
+use Rattle.form_engine.proofs.Refusals.{IsOfRun, of_program}
 
 -- the line of a refusal was put, or stopped
 pub refusal_carried : (old new : Option (List ℕ)) (answer : Answer) (status : Status) (result : Result Status Stop) → answer ≡ Refused status → Carries old (refused status) new result →
     (o : Outcome) × IsAnswerOutcome answer o × Carries old o new result
 refusal_carried old new answer status result is carried = (refused status, subst (λ (a : Answer). IsAnswerOutcome a (refused status)) (sym is) refl, carried)
-
-of_program : (settings : Settings) (p : Program) (o : Outcome) → IsProgramOutcome settings p o → IsOfRun o.status
-of_program settings p o is = of_modules settings p.names 1 p.modules [] o is
 
 -- a status that no run ends with is that of a refusal
 pub refused_status : (answer : Answer) (o : Outcome) (status : Status) → IsAnswerOutcome answer o → o.status ≡ status → (IsOfRun status → ⊥) → answer ≡ Refused status

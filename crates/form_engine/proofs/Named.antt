@@ -1,5 +1,5 @@
 -- What is said of a text that is missing or too long, where that is the outcome.
-use Rattle.std.proofs.Common.{◌≡◌, ◌<◌, ◌⊎◌, ℕ, List, [], length, map, Option, Some, None, IfSome, IsSomeAnd, MatchOption, MatchResult, Result, Ok, Err, sym, subst, ap, ◌∙◌, inl, inr, arith}
+use Rattle.std.proofs.Common.{◌≡◌, ◌<◌, ◌⊎◌, ℕ, List, length, map, Option, Some, None, IfSome, IsSomeAnd, MatchOption, MatchResult, Result, Ok, Err, sym, subst, ap, ◌∙◌, inl, inr, arith}
 use Rattle.form_base.specs.Status.{code_of}
 use Rattle.form_base.specs.declared.settings.Settings.{Settings}
 use Rattle.form_base.specs.declared.status.Status.{Status}
@@ -12,19 +12,19 @@ use Rattle.form_stmts.specs.Line.{PlacedLine}
 use Rattle.form_check.specs.Checking.{program}
 use Rattle.form_check.specs.Program.{Program}
 use Rattle.form_right_side.specs.Refusal as text
-use Rattle.form_engine.specs.Outcome.{Outcome, IsJobOutcome, IsExpansionOutcome, AreLines, IsProgramOutcome, line_of, refused, refused_at}
+use Rattle.form_engine.specs.Outcome.{Outcome, IsJobOutcome, IsExpansionOutcome, AreLines, line_of, program_outcome, refused, refused_at}
 use Rattle.form_engine.proofs.Answered.{never_missing, never_too_long}
 use Rattle.form_engine.proofs.Concluded.{Decided}
 use Rattle.form_engine.proofs.Lengths.{IsLong, is_long, is_missing}
-use Rattle.form_engine.proofs.Refusals.{IsOfRun, of_modules}
+use Rattle.form_engine.proofs.Refusals.{IsOfRun, of_program}
 
 -- how lines end: they were run, or they are refused
 abbrev IsOfText : Status → Type 0
 IsOfText status = IsOfRun status ⊎ (code_of status ≡ 3)
 
 of_checked : (settings : Settings) (names : List (List ℕ)) (r : Result Program text.Refusal) (o : Outcome) →
-    MatchResult r (λ p. IsProgramOutcome settings p o) (λ bad. o ≡ refused_at names bad.cause bad.spot) → IsOfText o.status
-of_checked settings names (Ok p) o h = inl (of_modules settings p.names 1 p.modules [] o h)
+    MatchResult r (λ p. o ≡ program_outcome settings p) (λ bad. o ≡ refused_at names bad.cause bad.spot) → IsOfText o.status
+of_checked settings names (Ok p) o h = inl (of_program settings p o h)
 of_checked settings names (Err bad) o e = inr (ap (λ (p : Outcome). code_of p.status) e)
 
 of_lines : (settings : Settings) (names : List (List ℕ)) (lines : List PlacedLine) (o : Outcome) → AreLines settings names lines o → IsOfText o.status

@@ -1,7 +1,8 @@
 -- An outcome ends with its modules done, with one of them refused, or is the line of a refusal.
-use Rattle.std.proofs.Common.{◌≡◌, ◌⊎◌, ℕ, suc, List, [], ◌∷◌, map, Option, Some, None, MatchOption, MatchResult, Result, Ok, Err, sym, ap, ◌∙◌, inl, inr}
+use Rattle.std.proofs.Common.{◌≡◌, ◌⊎◌, ℕ, suc, List, [], ◌∷◌, map, Option, Some, None, MatchOption, MatchResult, Result, Ok, Err, refl, sym, subst, ap, ◌∙◌, inl, inr}
 use Rattle.form_base.specs.declared.cause.Cause.{Cause}
 use Rattle.form_base.specs.declared.place.Place.{Place}
+use Rattle.form_base.specs.declared.place.Place.TheVariants.{Run}
 use Rattle.form_base.specs.declared.settings.Settings.{Settings}
 use Rattle.form_base.specs.declared.status.Status.{Status}
 use Rattle.form_base.specs.declared.status.Status.TheVariants.{Done, Usage, RefusedRun}
@@ -11,12 +12,13 @@ use Rattle.form_words.specs.Words.{job_of}
 use Rattle.form_preproc.specs.Expansion.{Expansion, expanded, missing, refusal, refused as stopped, too_long}
 use Rattle.form_stmts.specs.Line.{PlacedLine}
 use Rattle.form_names.specs.Names.{Entry}
-use Rattle.form_check.specs.declared.checked.Checked.{Checked}
 use Rattle.form_check.specs.Checking.{program}
-use Rattle.form_check.specs.Program.{Program}
+use Rattle.form_check.specs.Program.{Module, Program}
 use Rattle.form_right_side.specs.Refusal as text
 use Rattle.form_expand.specs.declared.stored.Stored.{Stored}
-use Rattle.form_engine.specs.Outcome.{Outcome, IsOutcome, IsJobOutcome, IsExpansionOutcome, AreLines, AreCarriedOut, IsProgramOutcome, line_of, refused, refused_at}
+use Rattle.form_module.specs.Module.{Refusal, module_outcome}
+use Rattle.form_print.specs.Printing.{name_of}
+use Rattle.form_engine.specs.Outcome.{Outcome, IsOutcome, IsJobOutcome, IsExpansionOutcome, AreLines, after_module, carried_out, line_of, program_outcome, refused, refused_at}
 
 -- what a status of modules that were carried out is
 abbrev pub IsOfRun : Status → Type 0
@@ -28,19 +30,23 @@ IsRunOrRefused o = IsOfRun o.status ⊎ (o ≡ refused o.status)
 is_refusal : (o : Outcome) (status : Status) → o ≡ refused status → IsRunOrRefused o
 is_refusal o status e = inr (e ∙ ap refused (sym (ap (λ (p : Outcome). p.status) e)))
 
-with_status : (o p : Outcome) → o.status ≡ p.status → IsOfRun p.status → IsOfRun o.status
-with_status o p e (inl done) = inl (e ∙ done)
-with_status o p e (inr run) = inr (run.0, run.1, e ∙ run.2)
+-- modules end with all of them done, or with one refused
+of_module : (names : List Entry) (number : ℕ) (m : Module) (later : List Stored → Outcome) (r : Result (List Stored) Refusal) → ((after : List Stored) → IsOfRun (later after).status) →
+    IsOfRun (after_module names number m later r).status
+of_module names number m later (Err bad) goes_on = inr (bad.cause, Run number (name_of names bad.expression), refl)
+of_module names number m later (Ok after) goes_on = goes_on after
 
-pub of_modules : (settings : Settings) (names : List Entry) (number : ℕ) (ms : List (List Checked)) (standing : List Stored) (o : Outcome) → AreCarriedOut settings names number ms standing o → IsOfRun o.status
-of_modules settings names number [] standing o e = inl (ap (λ (p : Outcome). p.status) e)
-of_modules settings names number (m ∷ ms) standing o (inl here) = inr (_, _, ap (λ (p : Outcome). p.status) here.2)
-of_modules settings names number (m ∷ ms) standing o (inr later) =
-    with_status o later.1 (ap (λ (p : Outcome). p.status) later.4) (of_modules settings names (suc number) ms later.0 later.1 later.3)
+of_modules : (settings : Settings) (names : List Entry) (number : ℕ) (ms : List Module) (standing : List Stored) → IsOfRun (carried_out settings names number ms standing).status
+of_modules settings names number [] standing = inl refl
+of_modules settings names number (m ∷ ms) standing =
+    of_module names number m (λ after. carried_out settings names (suc number) ms after) (module_outcome settings m standing) (λ after. of_modules settings names (suc number) ms after)
+
+pub of_program : (settings : Settings) (p : Program) (o : Outcome) → o ≡ program_outcome settings p → IsOfRun o.status
+of_program settings p o e = subst (λ (q : Outcome). IsOfRun q.status) (sym e) (of_modules settings p.names 1 p.modules [])
 
 of_checked : (settings : Settings) (names : List (List ℕ)) (r : Result Program text.Refusal) (o : Outcome) →
-    MatchResult r (λ p. IsProgramOutcome settings p o) (λ bad. o ≡ refused_at names bad.cause bad.spot) → IsRunOrRefused o
-of_checked settings names (Ok p) o h = inl (of_modules settings p.names 1 p.modules [] o h)
+    MatchResult r (λ p. o ≡ program_outcome settings p) (λ bad. o ≡ refused_at names bad.cause bad.spot) → IsRunOrRefused o
+of_checked settings names (Ok p) o h = inl (of_program settings p o h)
 of_checked settings names (Err bad) o e = is_refusal o _ e
 
 of_lines : (settings : Settings) (names : List (List ℕ)) (lines : List PlacedLine) (o : Outcome) → AreLines settings names lines o → IsRunOrRefused o

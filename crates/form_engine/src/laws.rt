@@ -13,7 +13,4 @@ pub fn one_outcome()
 {
     form_preproc::laws::one_expansion();
     form_stmts::laws::one_reading();
-    form_stmts::laws::right_sides_are_lawful();
-    form_check::laws::checked_programs_are_sound();
-    form_module::laws::one_module_outcome();
 }

@@ -1,5 +1,5 @@
 -- Powers of lists of one term, or none.
-use Rattle.std.proofs.Common.{◌≡◌, ℕ, zero, suc, ◌+◌, ◌-◌, ◌≤◌, ◌<◌, List, [], ◌∷◌, length, slice_index_or, refl, sym, ap, ◌∙◌, arith}
+use Rattle.std.proofs.Common.{◌≡◌, ℕ, zero, suc, ◌≤◌, ◌<◌, List, [], ◌∷◌, length, slice_index_or, refl, sym, ap, ◌∙◌, arith}
 use Rattle.std.specs.Prelude.{Option, Some, None, option_and_then, Result, Ok, Err}
 use Rattle.form_base.specs.declared.cause.Cause.{Cause}
 use Rattle.form_base.specs.declared.cause.Cause.TheVariants.{Overflow}
@@ -61,12 +61,12 @@ none_powered max ms end (suc k) h e = rw e (sym (none_to max end k))
 -- one term to a power
 
 module _ (max : ℕ) (some : 1 ≤ max) (m : Monomial) where
-  product_limited : (r : Result (Option Monomial) Cause) → limited max (of_product r) ≡ of_product r
+  pub product_limited : (r : Result (Option Monomial) Cause) → limited max (of_product r) ≡ of_product r
   product_limited (Ok (Some x)) = limited_within max (single x) some
   product_limited (Ok None) = limited_nothing max
   product_limited (Err cause) = limited_refusal max cause
 
-  paired : (x : Monomial) (r : Result (Option Monomial) Cause) → product_of x m ≡ r → pairs (single x) (single m) ≡ of_product r
+  pub paired : (x : Monomial) (r : Result (Option Monomial) Cause) → product_of x m ≡ r → pairs (single x) (single m) ≡ of_product r
   unfolding pairs_each times_each followed_at
   paired x (Ok (Some y)) e = rw e refl
   paired x (Ok None) e = rw e refl
@@ -75,25 +75,3 @@ module _ (max : ℕ) (some : 1 ≤ max) (m : Monomial) where
   pub term_once : powers max (single m) 1 ≡ single m
   unfolding powers
   term_once = limited_within max (single m) some
-
-  -- a further factor
-  pub term_more : (x : Monomial) (k : ℕ) (r : Result (Option Monomial) Cause) → 1 ≤ k → powers max (single m) k ≡ single x → product_of x m ≡ r → powers max (single m) (k + 1) ≡ of_product r
-  unfolding powers
-  term_more x zero r h e made = absurd (omega (arith, h))
-  term_more x (suc k) r h e made =
-      let next : suc k + 1 ≡ suc (suc k) = omega arith in
-      rw next (ap (λ l. limited max (pairs l (single m))) e ∙ ap (limited max) (paired x r made) ∙ product_limited r)
-
-  ended_for : (end : Option Cause) (k n : ℕ) → powers max (single m) (suc k) ≡ record { terms = []; end = end } → powers max (single m) (suc (k + n)) ≡ record { terms = []; end = end }
-  unfolding powers pairs_each
-  ended_for end k zero e = let same : k + 0 ≡ k = omega arith in rw same e
-  ended_for end k (suc n) e =
-      let next : k + suc n ≡ suc (k + n) = omega arith in
-      rw next (ap (λ l. limited max (pairs l (single m))) (ended_for end k n e) ∙ limited_within max (record { terms = []; end = end }) (omega arith))
-
-  -- behind a product that is 0 or refused nothing changes
-  pub term_ended : (end : Option Cause) (k power : ℕ) → k + 1 ≤ power → powers max (single m) (k + 1) ≡ record { terms = []; end = end } → powers max (single m) power ≡ record { terms = []; end = end }
-  term_ended end k power h e =
-      let next : k + 1 ≡ suc k = omega arith in
-      let all : power ≡ suc (k + (power - suc k)) = omega (arith, h) in
-      rw all (ended_for end k (power - suc k) (rw next at e))

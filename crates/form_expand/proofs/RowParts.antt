@@ -44,13 +44,23 @@ refused_row max cause (l ∷ ls) =
     ∙ refused_row max cause ls
 
 -- within a limit of no terms the first term is refused, whatever stands behind it
-no_row : (m : Monomial) (ls : List Listing) → row 0 (single m ∷ ls) ≡ refusal ExpandLimit
+pub no_row : (m : Monomial) (ls : List Listing) → row 0 (single m ∷ ls) ≡ refusal ExpandLimit
 unfolding row
 no_row m ls = ap (λ front. row_behind 0 front ls) (limited_none m nothing) ∙ refused_row 0 ExpandLimit ls
 
 first_same : (max : ℕ) (l : Listing) (ls : List Listing) → row max (limited max l ∷ ls) ≡ row max (l ∷ ls)
 unfolding row
 first_same max l ls = ap (λ front. row_behind max front ls) (limited_again max l)
+
+-- a row is within the limit
+behind_within : (max : ℕ) (front : Listing) (ls : List Listing) → limited max front ≡ front → limited max (row_behind max front ls) ≡ row_behind max front ls
+unfolding row_behind
+behind_within max front [] h = h
+behind_within max front (l ∷ ls) h = behind_within max (limited max (pairs front l)) ls (limited_again max (pairs front l))
+
+pub row_within : (max : ℕ) (l : Listing) (ls : List Listing) → limited max (row max (l ∷ ls)) ≡ row max (l ∷ ls)
+unfolding row
+row_within max l ls = behind_within max (limited max l) ls (limited_again max l)
 
 -- a row of lists within the limit is the row of the lists
 pub row_of_parts : (max : ℕ) (m : Monomial) (ps : List Part) → row max (limited max (single m) ∷ map (bounded max) ps) ≡ row max (single m ∷ map (part_list max) ps)
@@ -70,7 +80,7 @@ factors_done max fs m ps all product so_far none is =
 -- A term and one list behind it.
 
 -- the product with each term of a list has no more terms than the list
-times_length : (m : Monomial) (rs : List Monomial) (end : Option Cause) → length ((times_each m rs end).terms) ≤ length rs
+pub times_length : (m : Monomial) (rs : List Monomial) (end : Option Cause) → length ((times_each m rs end).terms) ≤ length rs
 unfolding times_each
 times_length m [] end = omega arith
 times_length m (r ∷ rs) end = step (product_of m r) (times_length m rs end)

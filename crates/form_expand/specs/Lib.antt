@@ -1,6 +1,7 @@
 pub mod Alone
 pub mod Bound
 pub mod Calls
+pub mod Chains
 pub mod Closings
 pub mod Depths
 pub mod Error
@@ -20,6 +21,7 @@ pub mod Moving
 pub mod Next
 pub mod NumberSums
 pub mod Numbers
+pub mod Often
 pub mod Paired
 pub mod Parentheses
 pub mod Parts
@@ -28,7 +30,9 @@ pub mod Products
 pub mod Readers
 pub mod Reading
 pub mod RowLists
+pub mod Runs
 pub mod Singles
+pub mod Sound
 pub mod Stored
 pub mod Streams
 pub mod Walks

@@ -41,12 +41,6 @@ IsNearer new [] = ⊥
 IsNearer [] (c ∷ old) = Unit {0}
 IsNearer (d ∷ new) (c ∷ old) = (d < c) ⊎ ((d ≡ c) × IsNearer new old)
 
--- The order is well-founded: there is no endless sequence of rows, each nearer to its end than the one before it. (A row of n
--- lists has a distance of at most n + 2 numbers, and no nearer one has more lists.)
-abbrev pub RowsEnd : Type 0
-RowsEnd = (below top : ℕ → List Level) (waiting : ℕ → ℕ)
-    → ((i : ℕ) → IsNearer (distance (below (i + 1)) (top (i + 1)) (waiting (i + 1))) (distance (below i) (top i) (waiting i))) → ⊥
-
 -- a step that only moves comes nearer to the end
 abbrev pub Nears : Result Progress ExpandError → (old new : List ℕ) → Type 0
 Nears (Ok progress.Moves) old new = IsNearer new old

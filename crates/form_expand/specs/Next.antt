@@ -6,7 +6,7 @@ use Rattle.form_expand.specs.declared.error.ExpandError.{ExpandError}
 use Rattle.form_expand.specs.declared.error.ExpandError.TheVariants.{Refused, Memory}
 use Rattle.form_expand.specs.declared.progress.Progress.{Progress}
 use Rattle.form_expand.specs.declared.progress.Progress.TheVariants as progress
-use Rattle.form_expand.specs.Listing.{Listing, nothing, refusal, before}
+use Rattle.form_expand.specs.Listing.{Listing, nothing, single, refusal, before}
 use Rattle.form_expand.specs.Left.{Level, left_at, left_past}
 
 -- The first term of what was left, which goes; or that nothing is left; or the refusal that stands there. Nothing is
@@ -37,6 +37,13 @@ abbrev pub IsMade : Result (Option Monomial) ExpandError → Result (Option Mono
 IsMade (Ok m) made = made ≡ Ok m
 IsMade (Err (Refused cause)) made = made ≡ Err cause
 IsMade (Err Memory) made = Unit {0}
+
+-- the list of what was made: its term, or none where it is 0
+abbrev pub ListsMade : Result (Option Monomial) ExpandError → Listing → Type 0
+ListsMade (Ok (Some m)) l = l ≡ single m
+ListsMade (Ok None) l = l ≡ nothing
+ListsMade (Err (Refused cause)) l = l ≡ refusal cause
+ListsMade (Err Memory) l = ⊥
 
 -- a step that gives a product, and moves on where it is 0
 abbrev pub progress_of : Option Monomial → Progress

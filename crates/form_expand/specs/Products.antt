@@ -1,5 +1,6 @@
 -- What is left of a product.
-use Rattle.std.specs.Prelude.{ℕ, List, ◌++◌, length, map, option_to_list, Option}
+use Rattle.std.specs.Prelude.{ℕ, ◌≤◌, List, ◌++◌, length, map, option_to_list, Option}
+use Rattle.std.specs.List.{AllByRecursion}
 use Rattle.form_term.specs.declared.monomial.Monomial.{Monomial}
 use Rattle.form_expand.specs.declared.product.Level as levels
 use Rattle.form_expand.specs.declared.product.Queued.{Queued}
@@ -33,3 +34,15 @@ product_left max p = levels_left max (p.below.items ++ option_to_list p.top) p.w
 -- how far a product is from its end
 abbrev pub product_distance : ℕ → Product → List ℕ
 product_distance max p = distance (map (level_of max) p.below.items) (map (level_of max) (option_to_list p.top)) (length p.waiting.items)
+
+-- A list that terms are being taken from has at most so many, and so has what is left of it.
+abbrev pub IsShort : ℕ → Level → Type 0
+IsShort most s = (length s.list.terms ≤ most) × (length s.opened.terms ≤ most)
+
+abbrev pub WaitsShort : ℕ → Waiting → Type 0
+WaitsShort most w = length w.list.terms ≤ most
+
+-- so have all lists of a product
+abbrev pub AreShort : ℕ → ℕ → Product → Type 0
+AreShort max most p =
+    AllByRecursion (λ (l : levels.Level). IsShort most (level_of max l)) (p.below.items ++ option_to_list p.top) × AllByRecursion (λ (q : Queued). WaitsShort most (waiting_of max q)) p.waiting.items

@@ -92,7 +92,7 @@ fn drained(alloc: Global, list: &mut Expansion) -> Result<Whole<'static>, AllocE
     ensures { IfOk result (λ whole. listing whole ≡ list.old) }
 {
     let mut terms = Vec::new(alloc);
-    for _ in 0..u64::MAX {
+    'turns: loop {
         match list.next(alloc) {
             Ok(Some(term)) => terms.push(term)?,
             Ok(None) => return Ok(Whole::made(terms)),
@@ -100,5 +100,4 @@ fn drained(alloc: Global, list: &mut Expansion) -> Result<Whole<'static>, AllocE
             Err(ExpandError::Memory) => return Err(AllocError),
         }
     }
-    Err(AllocError)
 }

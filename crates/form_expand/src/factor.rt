@@ -76,11 +76,7 @@ impl<'a> Factor<'a> {
         if let Some(made) = single_power(alloc, limit, &whole, power)? {
             return Ok(Factor::Once(Walk::new(made)));
         }
-        // So many factors take more memory than there is.
-        if power > u32::MAX as u128 {
-            return Err(AllocError);
-        }
-        let power = Power::new(alloc, whole, power as u32 - 1);
+        let power = Power::new(alloc, whole, power - 1);
         Ok(Factor::Power(Box::new(alloc, power)?))
     }
 
@@ -259,7 +255,7 @@ impl<'a> Factor<'a> {
             *self = Factor::Once(walk);
             return Ok(term);
         }
-        let mut list = Power::new(alloc, whole, later);
+        let mut list = Power::new(alloc, whole, later as u128);
         list.restart()?;
         let term = list.next_times(alloc, limit, left)?;
         *self = Factor::Power(Box::new(alloc, list)?);

@@ -199,7 +199,7 @@ pub fn collected(
         return Err(AllocError);
     };
     let mut collector = Collector::new(alloc);
-    for _ in 0..u64::MAX {
+    'turns: loop {
         match list.next(alloc, deeper) {
             Ok(Some(term)) => collector.add(term)?,
             Ok(None) => return terms_of(collector),
@@ -207,7 +207,6 @@ pub fn collected(
             Err(ExpandError::Memory) => return Err(AllocError),
         }
     }
-    Err(AllocError)
 }
 
 /// The terms that were collected.

@@ -7,7 +7,9 @@
 //! asked for (`function`). So recursion goes as deep as parentheses and functions stand within one another.
 //!
 //! A term is multiplied at once by a right side that is one term (`paired`), and without a list by one that is a function
-//! (`lone_function`).
+//! (`lone_function`). A term that stands behind a front many times makes many products at once (`repeated`).
+//! A term and several lists behind it are a row (`row`), whose terms a chain of levels makes, the deepest first (`chain`). A
+//! short list in which nothing is bound is made once (`fixed`).
 //!
 //! Names go through what a match bound them to (`stored`, `value`): a symbol to the list of an expression, and a power to a
 //! whole number (`bound`, `ended`), an index, a vector and a function to others, and a field to arguments.
@@ -15,10 +17,12 @@
 
 mod argument;
 mod bound;
+mod chain;
 mod ended;
 mod error;
 mod expansion;
 mod factor;
+mod fixed;
 mod function;
 pub mod laws;
 mod literal;
@@ -34,6 +38,7 @@ mod product;
 mod progress;
 mod reader;
 mod refusal;
+mod repeated;
 mod row;
 mod single;
 mod stored;
@@ -46,7 +51,8 @@ mod whole;
 pub use argument::argument_pieces;
 pub use error::ExpandError;
 pub use expansion::{Expansion, expand_tree, whole_list};
+pub use fixed::fixed_list;
 pub use paired::{Paired, pair, times_list};
-pub use row::{Part, Row};
+pub use row::{Part, Row, Run};
 pub use stored::{Standing, Stored};
 pub use whole::Whole;

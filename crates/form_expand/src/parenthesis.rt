@@ -147,14 +147,13 @@ impl<'a> Parenthesis<'a> {
         ensures next { Gives result (times_by left.now self.old.left) (times_by left.now self.new.left) }
         ensures whole { OnOk result (self.new.whole ≡ self.old.whole) }
     {
-        for _ in 0..u64::MAX {
+        'turns: loop {
             match self.step_times(alloc, left, deeper)? {
                 Progress::Moves => {}
                 Progress::Gives(term) => return Ok(Some(term)),
                 Progress::Done => return Ok(None),
             }
         }
-        Err(ExpandError::Memory)
     }
 
     /// A front of a product times the next term.

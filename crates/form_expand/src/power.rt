@@ -1,18 +1,19 @@
-ghost use Rattle.std.specs.Prelude.{◌≡◌, ◌↔◌, ◌≤◌, [], ◌++◌, ℕ, Some, None, Ok, IfOk, IfSome, IsTrue, OnOk, map, option_to_list};
+ghost use Rattle.std.specs.Prelude.{◌≡◌, ◌↔◌, ◌≤◌, [], ◌++◌, ℕ, Some, None, Ok, IfOk, IfSome, IsTrue, OnOk, map, option_to_list, replicate};
 ghost use Rattle.form_term.specs.declared.monomial.Monomial.{Monomial as Item};
 ghost use Rattle.form_term.specs.Term.{one};
 ghost use Rattle.form_expand.specs.Kept.{listing};
 ghost use Rattle.form_expand.specs.Left.{times_by};
 ghost use Rattle.form_expand.specs.Listing.{limited, powers, single};
 ghost use Rattle.form_expand.specs.Moving.{Lessens, Nears};
-ghost use Rattle.form_expand.specs.Next.{Gives, Goes, Takes};
+ghost use Rattle.form_expand.specs.Next.{Gives, Goes, ListsMade, Takes};
 ghost use Rattle.form_expand.specs.Walks.{opened_list, step_level, power_distance, power_left, power_whole};
 
 use crate::ExpandError;
 use crate::bound::is_invertible;
 use crate::number::fraction_list;
 use crate::progress::Progress;
-use crate::times::{times, times_onto, times_owned};
+use crate::repeated::times_often;
+use crate::times::{times, times_owned};
 use crate::whole::Whole;
 use form_base::Cause;
 use form_term::{Monomial, Term};
@@ -39,28 +40,28 @@ pub fn single_power<'a>(
     if is_one(&term.term) {
         return Ok(Some(fraction_list(alloc, term.coefficient, power)));
     }
-    // Powers of `i_` come round again: the products wouldn't end in a refusal, nor in any time.
-    if term.term.is_imaginary() && power > u32::MAX as u128 {
-        return Err(AllocError);
-    }
     Ok(Some(term_power(alloc, term, power)?))
 }
 
-/// The list of a term to a power, product by product.
+/// The list of a term to a power.
 fn term_power<'a>(alloc: Global, term: &Monomial, power: u128) -> Result<Whole<'a>, AllocError>
     requires { 1 ≤ power }
     ensures { IfOk result (λ made. (max : ℕ) → 1 ≤ max → listing made ≡ powers max (single term.now) power) }
 {
-    let mut made = term.clone()?;
-    for _count in 1..power {
-        match times_onto(alloc, made, term) {
-            Ok(Some(next)) => made = next,
-            Ok(None) => return Ok(Whole::nothing()),
-            Err(ExpandError::Refused(cause)) => return Ok(Whole::refused(cause)),
-            Err(ExpandError::Memory) => return Err(AllocError),
-        }
+    let front = term.clone()?;
+    list_of_made(times_often(alloc, front, term, power - 1))
+}
+
+/// The list of what is made: its term, or none where it is 0.
+fn list_of_made<'a>(made: Result<Option<Monomial>, ExpandError>) -> Result<Whole<'a>, AllocError>
+    ensures { IfOk result (λ whole. ListsMade made (listing whole)) }
+{
+    match made {
+        Ok(Some(term)) => Ok(Whole::single(term)),
+        Ok(None) => Ok(Whole::nothing()),
+        Err(ExpandError::Refused(cause)) => Ok(Whole::refused(cause)),
+        Err(ExpandError::Memory) => Err(AllocError),
     }
-    Ok(Whole::single(made))
 }
 
 /// Whether a term has no factors.
@@ -123,13 +124,34 @@ impl Step {
     }
 }
 
+/// For how many counts room is asked at once: for more than there may be, the allocator refuses it.
+fn room_for(counts: u128) -> usize {
+    if counts < usize::MAX as u128 {
+        counts as usize
+    } else {
+        usize::MAX
+    }
+}
+
+/// Puts so many counts of 0 where there is none.
+fn put_counts(counts: &mut Vec<u64>, more: u128) -> Result<(), AllocError>
+    requires { counts.old.items ≡ [] }
+    ensures { OnOk result (counts.new.items ≡ replicate more 0) }
+{
+    counts.reserve(room_for(more))?;
+    for _made in 0..more {
+        counts.push(0)?;
+    }
+    Ok(())
+}
+
 /// A list to a power of at least 2, whose terms are taken one by one, again and again: its factors are paired from the
 /// left, deepest first.
 #[derive(Drop)]
 pub struct Power<'a> {
     pub whole: Whole<'a>,
     /// How many factors there are behind the first.
-    pub later: u32,
+    pub later: u128,
     /// The last factor that terms are being taken from.
     pub top: Option<Step>,
     /// The factors before that.
@@ -139,7 +161,7 @@ pub struct Power<'a> {
 }
 
 impl<'a> Power<'a> {
-    pub fn new(alloc: Global, whole: Whole<'a>, later: u32) -> Power<'a>
+    pub fn new(alloc: Global, whole: Whole<'a>, later: u128) -> Power<'a>
         ensures whole { result.whole ≡ whole.entry }
         ensures later { result.later ≡ later }
         ensures top { result.top ≡ None }
@@ -162,7 +184,7 @@ impl<'a> Power<'a> {
     {
         self.below.clear();
         self.waiting.clear();
-        self.waiting.resize(self.later as usize, 0)?;
+        put_counts(&mut self.waiting, self.later)?;
         self.top = Some(Step {
             left: None,
             place: 0,
@@ -181,7 +203,7 @@ impl<'a> Power<'a> {
         ensures next { Gives result (times_by left.now (power_left limit self.old)) (times_by left.now (power_left limit self.new)) }
         ensures whole { OnOk result (power_whole limit self.new ≡ power_whole limit self.old) }
     {
-        for _ in 0..u64::MAX {
+        'turns: loop {
             let Some(term) = self.next(alloc, limit)? else {
                 return Ok(None);
             };
@@ -189,7 +211,6 @@ impl<'a> Power<'a> {
                 return Ok(Some(made));
             }
         }
-        Err(ExpandError::Memory)
     }
 
     /// The next term.
@@ -197,20 +218,20 @@ impl<'a> Power<'a> {
         ensures next { Gives result (power_left limit self.old) (power_left limit self.new) }
         ensures whole { OnOk result (power_whole limit self.new ≡ power_whole limit self.old) }
     {
-        for _ in 0..u64::MAX {
+        'turns: loop {
             match self.step(alloc, limit)? {
                 Progress::Moves => {}
                 Progress::Gives(term) => return Ok(Some(term)),
                 Progress::Done => return Ok(None),
             }
         }
-        Err(ExpandError::Memory)
     }
 
     fn step(&mut self, alloc: Global, limit: u64) -> Result<Progress, ExpandError>
         ensures next { Goes result (power_left limit self.old) (power_left limit self.new) }
         ensures nearer { Nears result (power_distance self.old) (power_distance self.new) }
         ensures whole { OnOk result (power_whole limit self.new ≡ power_whole limit self.old) }
+        ensures same { OnOk result (listing self.new.whole ≡ listing self.old.whole) }
     {
         let Some(top) = &mut self.top else {
             let Some(step) = self.below.pop() else {

@@ -4,7 +4,7 @@ ghost use Rattle.form_expand.specs.Left.{left_of_levels, row};
 ghost use Rattle.form_expand.specs.Listing.{nothing, powers};
 ghost use Rattle.form_expand.specs.Moving.{Lessens, Nears};
 ghost use Rattle.form_expand.specs.Next.{Gives, Goes, Takes};
-ghost use Rattle.form_expand.specs.Products.{level_of, level_at_first, queued_of, product_distance, product_left};
+ghost use Rattle.form_expand.specs.Products.{AreShort, level_of, level_at_first, queued_of, product_distance, product_left};
 ghost use Rattle.form_expand.specs.Reading.{list_of_pieces};
 
 use crate::ExpandError;
@@ -55,6 +55,7 @@ impl<'a> Level<'a> {
     ) -> Result<Option<Monomial>, ExpandError>
         ensures next { Takes limit result (level_of limit self.old) (level_of limit self.new) }
         ensures fewer { Lessens result (level_of limit self.old).opened (level_of limit self.new).opened }
+        ensures list { OnOk result (factor_whole limit self.new.factor ≡ factor_whole limit self.old.factor) }
     {
         let Some(term) = self.factor.next_times(alloc, limit, &self.left, deeper)? else {
             return Ok(None);
@@ -170,20 +171,20 @@ impl<'a> Product<'a> {
     ) -> Result<Option<Monomial>, ExpandError>
         ensures { Gives result (product_left limit self.old) (product_left limit self.new) }
     {
-        for _ in 0..u64::MAX {
+        'turns: loop {
             match self.step(alloc, limit, deeper)? {
                 Progress::Moves => {}
                 Progress::Gives(term) => return Ok(Some(term)),
                 Progress::Done => return Ok(None),
             }
         }
-        Err(ExpandError::Memory)
     }
 
     #[cycle(taking)]
     fn step(&mut self, alloc: Global, limit: u64, deeper: u64) -> Result<Progress, ExpandError>
         ensures next { Goes result (product_left limit self.old) (product_left limit self.new) }
         ensures nearer { Nears result (product_distance limit self.old) (product_distance limit self.new) }
+        ensures short { OnOk result ((most : ℕ) → AreShort limit most self.old → AreShort limit most self.new) }
     {
         let Some(top) = &mut self.top else {
             let Some(level) = self.below.pop() else {

@@ -141,7 +141,7 @@ impl Standing {
     }
 
     /// The pieces of the arguments that a field stands for, none where it isn't bound.
-    pub fn field(&self, field: u32) -> &[Piece]
+    pub fn field(&self, field: usize) -> &[Piece]
         ensures pieces { result.now ≡ pieces_of_arguments (field_of self.now field) }
         ensures lawful { AreArguments result.now }
     {

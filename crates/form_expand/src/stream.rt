@@ -76,7 +76,7 @@ impl<'a> Stream<'a> {
     pub fn next(&mut self, alloc: Global, deeper: u64) -> Result<Option<Monomial>, ExpandError>
         ensures { Gives result (stream_left self.old) (stream_left self.new) }
     {
-        for _ in 0..u64::MAX {
+        'turns: loop {
             if let Some(term) = self.product.next(alloc, self.limit, deeper)? {
                 return self.give(term);
             }
@@ -88,7 +88,6 @@ impl<'a> Stream<'a> {
             }
             self.read(alloc)?;
         }
-        Err(ExpandError::Memory)
     }
 
     /// Gives a term of the product at hand.

@@ -32,7 +32,10 @@ fn times_left(
 ) -> Result<Option<Monomial>, ExpandError>
     ensures { IsMade result (product_of left.now term.now) }
 {
-    if term.term.powers().is_empty() && term.term.functions().len() < 2 {
+    if term.term.powers().is_empty()
+        && term.term.functions().len() < 2
+        && term.term.word().is_empty()
+    {
         return times_onto(alloc, left.clone()?, term);
     }
     Ok(product(alloc, left, term)?)

@@ -62,7 +62,8 @@ impl<'a> Walk<'a> {
         alloc: Global,
         left: Monomial,
     ) -> Result<Option<Monomial>, ExpandError>
-        ensures { (max : ℕ) → HasOne max self.old → Gives result (times_by (Some left) (walk_left max self.old)) (walk_left max self.new) }
+        ensures gives { (max : ℕ) → HasOne max self.old → Gives result (times_by (Some left) (walk_left max self.old)) (walk_left max self.new) }
+        ensures whole { (max : ℕ) → walk_whole max self.new ≡ walk_whole max self.old }
     {
         let Some(term) = self.whole.at(self.place) else {
             return Ok(None);

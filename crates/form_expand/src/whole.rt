@@ -66,6 +66,16 @@ impl Whole<'_> {
         }
     }
 
+    /// The list of these terms, which stay where they are.
+    pub fn lent<'a>(terms: &'a [Monomial]) -> Whole<'a>
+        ensures { listing result ≡ record { terms = terms.now; end = None } }
+    {
+        Whole {
+            kept: Kept::Stored(terms),
+            end: None,
+        }
+    }
+
     pub fn refused<'a>(cause: Cause) -> Whole<'a>
         ensures { listing result ≡ refusal cause }
     {

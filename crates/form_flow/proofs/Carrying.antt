@@ -1,8 +1,7 @@
 -- Outputs that are given to one who takes them.
-use Rattle.std.proofs.Common.{◌≡◌, List, [], ◌∷◌, ◌++◌, Option, Some, None, Ok, refl, sym, ap, subst, ◌∙◌, append_assoc, append-nil}
-use Rattle.form_base.specs.declared.cause.Cause.{Cause}
+use Rattle.std.proofs.Common.{◌≡◌, List, [], ◌∷◌, ◌++◌, Option, Some, Ok, sym, ap, subst, ◌∙◌, append_assoc}
 use Rattle.form_term.specs.declared.monomial.Monomial.{Monomial}
-use Rattle.form_expand.specs.Listing.{Listing, nothing, refusal, before}
+use Rattle.form_expand.specs.Listing.{Listing, before}
 use Rattle.form_expand.specs.Next.{Gives}
 use Rattle.form_flow.specs.Answers.{IsFront}
 

@@ -1,5 +1,5 @@
 -- Stretches of the word of a term make terms.
-use Rattle.std.proofs.Common.{◌≡◌, ℕ, zero, suc, ◌<◌, ◌≤◌, ◌==◌, Bool, false, List, [], ◌∷◌, Some, length, take, drop, refl, ap, ◌∙◌, arith}
+use Rattle.std.proofs.Common.{◌≡◌, ℕ, zero, suc, ◌<◌, ◌≤◌, ◌==◌, false, List, [], ◌∷◌, Some, length, take, drop, refl, sym, ap, ◌∙◌, arith}
 use Rattle.std.specs.Prelude.{All, nat_abs}
 use Rattle.std.specs.List.{sum_by}
 use Rattle.std.proofs.lemmas.List.Sums.{sum-map, sum_by-take-le, sum_by-take-drop}
@@ -8,7 +8,7 @@ use Rattle.form_term.specs.declared.power.Power.{Power}
 use Rattle.form_term.specs.declared.power.DotPower.{DotPower}
 use Rattle.form_term.specs.declared.index.Component.{Component}
 use Rattle.form_term.specs.declared.index.Delta.{Delta}
-use Rattle.form_term.specs.Term.{Term, Call, IsTerm, IsCall, nothing, of_others, size_of_call, depth_of_calls, largest_exponent}
+use Rattle.form_term.specs.Term.{Term, Call, Others, IsTerm, IsCall, nothing, of_others, size_of_call, depth_of_calls, largest_exponent}
 use Rattle.form_term.specs.TermLaws.{nothing_lawful}
 use Rattle.form_term.specs.Terms.{term}
 use Rattle.form_flow.specs.Words.{front, of_word}
@@ -77,13 +77,9 @@ stretch_lawful t start n h =
     (omega (arith, sum_by-take-le size_of_call rest n, sum_by-take-drop size_of_call w start))
     (omega (arith, take_depth n rest, drop_depth start w))
 
--- a term by its parts
-pub front_is : (n : ℕ) (t : Term) (ps : List Power) (b : Bool) (ds : List DotPower) (cs : List Component) (es : List Delta) (fs w : List Call)
-    → ps ≡ t.symbols → b ≡ t.others.is_imaginary → ds ≡ t.others.dots → cs ≡ t.others.components
-    → es ≡ t.others.deltas → fs ≡ t.others.functions → w ≡ take n t.others.word
-    → term ps (record { is_imaginary = b; dots = ds; components = cs; deltas = es; functions = fs; word = w }) ≡ front n t
-front_is n t ps b ds cs es fs w p q r s u v x =
-    λ i. record { symbols = p i; others = record { is_imaginary = q i; dots = r i; components = s i; deltas = u i; functions = v i; word = x i } }
+-- a term of which so many functions of the word are kept
+pub front_kept : (n : ℕ) (t : Term) (ps : List Power) (o : Others) (w : List Call) → t ≡ term ps o → w ≡ take n o.word → term ps (record o { word = w }) ≡ front n t
+front_kept n t ps o w is kept = ap (λ v. term ps (record o { word = v })) kept ∙ ap (front n) (sym is)
 
 -- functions alone, by their parts
 pub alone_is : (ps : List Power) (ds : List DotPower) (cs : List Component) (es : List Delta) (fs w v : List Call)

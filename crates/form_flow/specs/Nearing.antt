@@ -1,59 +1,83 @@
--- How near outputs are to their end.
-use Rattle.std.specs.Prelude.{◌≡◌, ℕ, ◌+◌, ◌*◌, ◌-◌, ◌<◌, ◌==◌, if◌then◌else◌, length, sum_by, Option, Some, None, Result, Ok, Err}
+-- How many terms may go on their way yet at most, which is less with each step.
+use Rattle.std.specs.Prelude.{ℕ, zero, suc, ◌+◌, ◌*◌, ◌<◌, ◌≤◌, List, length, sum_by, Option, Some, None, Result, Ok, Err}
+use Rattle.form_term.specs.declared.monomial.Monomial.{Monomial}
 use Rattle.form_expand.specs.declared.error.ExpandError.{ExpandError}
-use Rattle.form_flow.specs.declared.outputs.Frame.{Frame}
-use Rattle.form_flow.specs.declared.outputs.Gone.{Gone}
-use Rattle.form_flow.specs.declared.outputs.Gone.TheVariants as gone
-use Rattle.form_flow.specs.declared.outputs.State.{State}
-use Rattle.form_flow.specs.declared.outputs.Step.{Step}
-use Rattle.form_flow.specs.declared.outputs.Step.TheVariants.{Moves, Gives, Done}
-use Rattle.form_flow.specs.declared.outputs.Waiting.{Waiting}
+use Rattle.form_flow.specs.declared.descent.Descent.{Descent}
+use Rattle.form_flow.specs.declared.descent.Frame.{Frame}
+use Rattle.form_flow.specs.declared.descent.Step.{Step}
+use Rattle.form_flow.specs.declared.descent.Step.TheVariants as step
+use Rattle.form_flow.specs.declared.effect.Effect.{Effect}
+use Rattle.form_flow.specs.declared.effect.Effect.TheVariants as effect
+use Rattle.form_flow.specs.Left.{limits_of}
+use Rattle.form_flow.specs.Sources.{listed}
+use Rattle.form_flow.specs.Statement.{Limits}
+use Rattle.form_flow.specs.Weight.{path_weight}
 
--- a term on its way weighs 1 where so many of n statements are ahead of it
-abbrev pub waiting_weight : (n ahead : ℕ) → Option Waiting → ℕ
-waiting_weight n ahead None = 0
-waiting_weight n ahead (Some w) = if n - w.behind == ahead then 1 else 0
+unfoldable pub two_to : ℕ → ℕ
+two_to zero = 1
+two_to (suc n) = two_to n + two_to n
 
--- and a statement that acted two for each term that is left of its row, and one
-abbrev pub frame_weight : (n ahead : ℕ) → Frame → ℕ
-frame_weight n ahead f = if n - f.behind == ahead then 2 * length f.row.value.terms + 1 else 0
+-- those of a frame: each of its terms goes by its path
+abbrev pub frame_ahead : Limits → Frame → ℕ
+frame_ahead at f = suc (length (listed f.source).terms) * two_to (path_weight at f.path)
 
--- what all weighs that has so many of n statements ahead
-unfoldable pub weight_in : ℕ → State → ℕ → ℕ
-weight_in n s ahead = waiting_weight n ahead s.waiting + sum_by (frame_weight n ahead) s.frames.items
+abbrev pub frames_ahead : Limits → List Frame → ℕ
+frames_ahead at fs = sum_by (frame_ahead at) fs
 
--- the same with a further statement that acted
-abbrev pub weight_with : ℕ → Frame → State → ℕ → ℕ
-weight_with n f s ahead = frame_weight n ahead f + weight_in n s ahead
+abbrev pub way_weight : Descent → ℕ
+way_weight d = path_weight (limits_of d) d.path
 
--- Nearer to the end, in lexicographic order of how many statements are ahead, the most first: there is less of what has so
--- many ahead, and as much as before of what has more. What has fewer may grow.
-pub record IsNearer (new old : ℕ → ℕ) : Type 0 where
-  pub ahead : ℕ
-  pub less : new ahead < old ahead
-  pub same : (further : ℕ) → ahead < further → new further ≡ old further
+abbrev pub waiting_ahead : Descent → ℕ
+waiting_ahead d = frames_ahead (limits_of d) d.frames.items
 
--- the order is well-founded: there is no endless sequence of states, each nearer to the end than the one before it
-abbrev pub StatesEnd : ℕ → Type 0
-StatesEnd n = (states : ℕ → State) → ((i : ℕ) → IsNearer (weight_in n (states (i + 1))) (weight_in n (states i))) → ⊥
+-- with a term on its way
+abbrev pub on_way_ahead : Descent → ℕ
+on_way_ahead d = two_to (way_weight d) + waiting_ahead d
 
--- a step that only moves comes nearer to the end
-abbrev pub Nears : Result Step ExpandError → (old new : ℕ → ℕ) → Type 0
-Nears (Ok Moves) old new = IsNearer new old
-Nears (Ok (Gives m)) old new = Unit {0}
-Nears (Ok Done) old new = Unit {0}
-Nears (Err error) old new = Unit {0}
+abbrev pub first_ahead : Descent → Option Monomial → ℕ
+first_ahead d None = 0
+first_ahead d (Some m) = two_to (way_weight d)
 
--- a step that doesn't only move
-abbrev pub IsNoMove : Result Step ExpandError → Type 0
-IsNoMove (Ok Moves) = ⊥
-IsNoMove (Ok (Gives m)) = Unit {0}
-IsNoMove (Ok Done) = Unit {0}
-IsNoMove (Err error) = Unit {0}
+abbrev pub ahead : Descent → ℕ
+ahead d = first_ahead d d.first + waiting_ahead d
 
--- where a statement acts on a term, what comes of it has fewer of n statements ahead
-abbrev pub Advances : ℕ → Waiting → Result Gone ExpandError → Type 0
-Advances n w (Ok (gone.Out m)) = Unit {0}
-Advances n w (Ok gone.Nothing) = Unit {0}
-Advances n w (Ok (gone.Acts f)) = n - f.behind < n - w.behind
-Advances n w (Err error) = Unit {0}
+-- a list of at most so many terms goes on: one on its way, and the others wait
+abbrev pub Waits : Result (Option Monomial) ExpandError → ℕ → Descent → Descent → Type 0
+Waits (Ok (Some m)) n old new = on_way_ahead new ≤ suc n * two_to (way_weight old) + waiting_ahead old
+Waits (Ok None) n old new = waiting_ahead new ≤ waiting_ahead old
+Waits (Err e) n old new = Unit {0}
+
+-- a statement of this weight was carried out
+abbrev pub Spends : Result (Option Monomial) ExpandError → ℕ → Descent → Descent → Type 0
+Spends (Ok (Some m)) n old new = on_way_ahead new ≤ two_to (n + way_weight old) + waiting_ahead old
+Spends (Ok None) n old new = waiting_ahead new ≤ two_to (n + way_weight old) + waiting_ahead old
+Spends (Err e) n old new = Unit {0}
+
+-- at most so many terms come of it
+abbrev pub IsMost : Effect → ℕ → Type 0
+IsMost (effect.Source s) n = length (listed s).terms ≤ n
+IsMost e n = Unit {0}
+
+-- a term goes on
+abbrev pub Starts : Result (Option Monomial) ExpandError → Descent → Descent → Type 0
+Starts (Ok (Some m)) old new = on_way_ahead new ≤ ahead old
+Starts (Ok None) old new = Unit {0}
+Starts (Err e) old new = Unit {0}
+
+-- a term on its way came nearer to its end
+abbrev pub Nears : Result Step ExpandError → Descent → Descent → Type 0
+Nears (Ok (step.On m)) old new = on_way_ahead new < on_way_ahead old
+Nears (Ok (step.Out m)) old new = ahead new < on_way_ahead old
+Nears (Ok step.Gone) old new = ahead new < on_way_ahead old
+Nears (Err e) old new = Unit {0}
+
+-- it came to its end
+abbrev pub Ends : Result (Option Monomial) ExpandError → Descent → Descent → Type 0
+Ends (Ok m) old new = ahead new < on_way_ahead old
+Ends (Err e) old new = Unit {0}
+
+-- an output was given
+abbrev pub Lessens : Result (Option Monomial) ExpandError → Descent → Descent → Type 0
+Lessens (Ok (Some m)) old new = ahead new < ahead old
+Lessens (Ok None) old new = Unit {0}
+Lessens (Err e) old new = Unit {0}

@@ -1,32 +1,49 @@
--- Statements made ready for a module.
-use Rattle.std.specs.Prelude.{◌≡◌, ℕ, List, map, All}
-use Rattle.form_tree.specs.Tree.{Argument, pieces_of_argument}
-use Rattle.form_check.specs.declared.checked.Rewriting.{Rewriting}
-use Rattle.form_flow.specs.declared.compiled.CompiledPart.{CompiledPart}
-use Rattle.form_flow.specs.declared.compiled.Group.{Group}
-use Rattle.form_flow.specs.Rewriting.{table_of}
+-- What a module's statements are made ready as.
+use Rattle.std.specs.Prelude.{◌≡◌, ℕ, List, Option, IfSome, Vec}
+use Rattle.std.specs.declared.alloc.Global.{Global}
+use Rattle.form_base.specs.declared.taking.Taking.{Taking}
+use Rattle.form_term.specs.declared.monomial.Monomial.{Monomial}
+use Rattle.form_term.specs.declared.piece.Piece.{Piece}
+use Rattle.form_tree.specs.Condition.{Alternatives}
+use Rattle.form_tree.specs.Pattern.{Factors, pieces_of_factors}
+use Rattle.form_tree.specs.PatternBuilding.{factors_of}
+use Rattle.form_tree.specs.Tree.{Sum}
+use Rattle.form_match.specs.Ready.{ReadyPattern}
+use Rattle.form_cond.specs.Condition.{Ready}
+use Rattle.form_expand.specs.Expanding.{list_of_sum}
+use Rattle.form_expand.specs.Meanings.{no_meanings}
+use Rattle.form_expand.specs.Walks.{all_of}
 
--- The statements of a module, each an `id` with its `also`s, and the most terms that a list may have.
-pub record Compiled : Type 0 where
-  pub limit : ℕ
-  pub groups : List (List Rewriting)
+-- An `id` or an `also`: its option, its pattern, what the arguments without wildcards in that are, none where one is refused, and
+-- its right side.
+pub record Part : Type 0 where
+  pub option : Option Taking
+  pub pattern : Factors
+  pub fixed : List (Option (List Piece))
+  pub right : Sum
 
-abbrev pub rewriting_of : CompiledPart → Rewriting
-rewriting_of part = part.rewriting.now
+-- a condition, and its patterns by their numbers
+pub record Choice : Type 0 where
+  pub patterns : List Ready
+  pub condition : Alternatives
 
-abbrev pub rewritings_of : Group → List Rewriting
-rewritings_of group = map rewriting_of group.parts.items
+-- ---- what is kept
 
-abbrev pub compiled : ℕ → List Group → Compiled
-compiled max groups = record { limit = max; groups = map rewritings_of groups }
+-- the pieces of a pattern are those of its tree
+abbrev pub IsBuilt : ReadyPattern → Type 0
+IsBuilt p = p.pieces ≡ pieces_of_factors (factors_of p.pieces)
 
--- its pattern is that of the statement, with what the arguments without wildcards are
-pub record IsReady (max : ℕ) (part : CompiledPart) : Type 0 where
-  pub pieces : part.pattern.pieces ≡ part.rewriting.now.pattern.pieces
-  pub table : (args : List Argument) → part.rewriting.now.pattern.fixed ≡ map pieces_of_argument args → part.pattern.fixed ≡ table_of max args
+-- a pattern of a condition
+abbrev pub pattern_in : ReadyPattern → Ready
+pattern_in p = record { fixed = p.fixed; factors = factors_of p.pieces }
 
-abbrev pub AreReady : ℕ → Group → Type 0
-AreReady max group = All (IsReady max) group.parts.items
+abbrev pub part_in : Option Taking → ReadyPattern → Sum → Part
+part_in option p right = record { option = option; pattern = factors_of p.pieces; fixed = p.fixed; right = right }
 
-abbrev pub AreAllReady : ℕ → List Group → Type 0
-AreAllReady max groups = All (AreReady max) groups
+-- a list that is kept of a right side is its list within this limit
+abbrev pub IsListOf : ℕ → Sum → Option (Vec Monomial Global) → Type 0
+IsListOf max s kept = IfSome kept (λ list. list_of_sum max no_meanings s ≡ all_of list.items)
+
+-- the pattern of a part as it is tried
+abbrev pub kept_of : Part → ReadyPattern
+kept_of p = record { pieces = pieces_of_factors p.pattern; fixed = p.fixed }

@@ -1,37 +1,22 @@
--- What an `id` with its `also`s makes of a term, and what a module's statements make of it.
+-- What an `id` with its `also`s makes of a term.
 use Rattle.std.specs.Prelude.{ℕ, ◌-◌, Bool, true, false, if◌then◌else◌, pos, List, [], ◌∷◌, ◌++◌, map, flat_map, fold, take, drop, replicate, Option, Some, None, slice_index_or}
 use Rattle.std.specs.List.{list_any}
-use Rattle.form_base.specs.declared.cause.Cause.{Cause}
-use Rattle.form_base.specs.declared.taking.Taking.{Taking}
 use Rattle.form_frac.specs.Fraction.{whole}
-use Rattle.form_term.specs.declared.piece.Piece.{Piece}
 use Rattle.form_term.specs.declared.monomial.Monomial.{Monomial}
 use Rattle.form_term.specs.Term.{Term, Call, of_others}
 use Rattle.form_term.specs.Term as terms
 use Rattle.form_tree.specs.Tree as tree
-use Rattle.form_tree.specs.Pattern.{Factors}
 use Rattle.form_bindings.specs.Values.{Binding}
 use Rattle.form_rewrite.specs.declared.taken.Cut.{Cut}
 use Rattle.form_rewrite.specs.declared.taken.Origin.{Origin}
 use Rattle.form_rewrite.specs.declared.taken.Origin.TheVariants.{Given, TakenBy}
 use Rattle.form_rewrite.specs.declared.taken.Taken.{Taken}
 use Rattle.form_rewrite.specs.Taking.{take_out}
-use Rattle.form_expand.specs.Listing.{Listing, single, limited, followed}
+use Rattle.form_expand.specs.Listing.{Listing, single}
 use Rattle.form_expand.specs.Left.{row}
-use Rattle.form_expand.specs.Meanings.{no_meanings, bound_to}
-use Rattle.form_expand.specs.Expanding.{list_of_sum, arguments_in}
-use Rattle.form_expand.specs.Alone.{pieces_unless_refused}
-
--- An `id` or an `also`: its option, its pattern, the arguments without wildcards in that, and its right side.
-pub record Part : Type 0 where
-  pub option : Option Taking
-  pub pattern : Factors
-  pub fixed : List tree.Argument
-  pub right : tree.Sum
-
--- what the arguments without wildcards are: none where one is refused, and then it equals nothing
-abbrev pub table_of : ℕ → List tree.Argument → List (Option (List Piece))
-table_of max args = map (λ a. pieces_unless_refused (arguments_in max no_meanings a)) args
+use Rattle.form_expand.specs.Meanings.{bound_to}
+use Rattle.form_expand.specs.Expanding.{list_of_sum}
+use Rattle.form_flow.specs.Ready.{Part}
 
 -- what is left of a term, the places at which its word was cut with what is put in there, and what is put in behind all
 pub record Rest : Type 0 where
@@ -77,7 +62,7 @@ and_taken max right r (Some x) = record {
 
 -- a part takes out of what those before it left
 abbrev pub and_part : ℕ → Rest → Part → Rest
-and_part max r p = and_taken max p.right r (take_out (table_of max p.fixed) p.pattern p.option r.left (map (λ c. c.0) r.cuts))
+and_part max r p = and_taken max p.right r (take_out p.fixed p.pattern p.option r.left (map (λ c. c.0) r.cuts))
 
 -- a stretch of the word as a factor, where there is one
 abbrev pub word_factor : List Call → List Listing
@@ -112,26 +97,3 @@ rest_of max parts t = fold (and_part max) (untouched t) parts
 unfoldable pub rewritten : ℕ → List Part → Monomial → Option Listing
 rewritten max parts m =
     let r = rest_of max parts m.term in if r.has_matched then Some (list_of_rest max m r) else None
-
--- ---- statements
-
--- each term of a list in order goes on, up to the first refusal; the refusal that ends the list stands behind
-unfoldable pub through_each : (Monomial → Listing) → List Monomial → Option Cause → Listing
-through_each go [] end = record { terms = []; end = end }
-through_each go (m ∷ ms) end = followed (go m) (through_each go ms end)
-
-abbrev pub through : (Monomial → Listing) → Listing → Listing
-through go l = through_each go l.terms l.end
-
-abbrev pub going_on : (Monomial → Listing) → Monomial → Option Listing → Listing
-going_on go m None = go m
-going_on go m (Some l) = through go l
-
--- What statements make of a term, depth first.
-unfoldable pub carried : ℕ → List (List Part) → Monomial → Listing
-carried max [] m = single m
-carried max (parts ∷ later) m = going_on (carried max later) m (rewritten max parts m)
-
--- The outputs of one input term: at most so many, and ExpandLimit where more would come.
-unfoldable pub outputs : ℕ → List (List Part) → Monomial → Listing
-outputs max statements m = limited max (carried max statements m)

@@ -1,22 +1,23 @@
 //! What is put in between the parts of a word that was cut.
-ghost use Rattle.std.specs.Prelude.{◌≡◌, ◌+◌, ◌++◌, ℕ, IfOk, List, drop, map, slice_index_or, take, None, true};
-ghost use Rattle.std.specs.Vec.Iter.{into_iter_items};
+ghost use Rattle.std.specs.List.{range_with_len};
+ghost use Rattle.std.specs.Prelude.{◌≡◌, ◌<◌, ◌+◌, ◌++◌, ℕ, IfOk, List, drop, length, map, slice_index_or, take, None, false, true};
+ghost use Rattle.std.specs.Vec.Iter.{into_iter_items, into_iter_len};
 ghost use Rattle.form_term.specs.Term.{IsTerm};
-ghost use Rattle.form_tree.specs.Tree.{Sum, pieces_of_sum};
 ghost use Rattle.form_expand.specs.Expanding.{list_of_sum};
 ghost use Rattle.form_expand.specs.Listing.{Listing};
-ghost use Rattle.form_expand.specs.Meanings.{bound_to, no_meanings};
+ghost use Rattle.form_expand.specs.Meanings.{bound_to};
 ghost use Rattle.form_expand.specs.Parts.{part_list};
-ghost use Rattle.form_flow.specs.Rests.{cut_list, first_cut, names_in, place_of, put_in_named};
+ghost use Rattle.form_expand.specs.Runs.{lists_of};
+ghost use Rattle.form_flow.specs.Rests.{ComesAt, cut_list, first_cut, names_in, numbers_given, place_of, put_in_named, taken_after};
 ghost use Rattle.form_flow.specs.Rewriting.{any_match, from_cuts, is_by_match, list_of_rest, no_list, word_factor};
 
+use crate::compiled::ReadySide;
 use crate::rest::{bound, right_side};
 use crate::words::{with_front, word_of};
 use form_bindings::Bindings;
-use form_expand::{Part, Row, Standing};
+use form_expand::{Part, Row, Run, Standing};
 use form_rewrite::{Cut, Origin};
 use form_term::{Monomial, Term};
-use form_tree::Piece;
 use std::alloc::{AllocError, Global};
 use std::vec::IntoIter;
 
@@ -25,13 +26,6 @@ use std::vec::IntoIter;
 pub struct Inserted<'a> {
     pub place: u32,
     pub list: Part<'a>,
-}
-
-/// What was put in at earlier cuts, from the left, and how many of them have been taken over.
-#[derive(Drop)]
-pub struct Earlier<'a> {
-    pub left: IntoIter<Inserted<'a>>,
-    pub taken: u32,
 }
 
 /// The places of these cuts.
@@ -72,39 +66,30 @@ pub fn all_bound(alloc: Global, matches: Vec<Bindings>) -> Result<Vec<Option<Sta
     Ok(names)
 }
 
-/// What is put in at cuts: what was there before, or the right side by what names stand for in the match.
+/// What is put in at cuts: what was there before, or the right side by what names stand for in the match. Cuts keep their
+/// order.
 pub fn put_between<'a>(
     alloc: Global,
     limit: u64,
-    right: &'a [Piece],
-    nothing: &'a Standing,
+    right: &'a ReadySide<'a>,
     names: &[Option<Standing>],
     cuts: &[Cut],
     before: Vec<Inserted<'a>>,
 ) -> Result<Vec<Inserted<'a>>, AllocError>
-    requires { nothing.now ≡ no_meanings }
-    ensures { (s : Sum) → right.now ≡ pieces_of_sum s → IfOk result (λ made. map (cut_list limit) made.items
-        ≡ map (λ c. (c.place, put_in_named limit s (map (cut_list limit) before.entry.items) names.now c.origin)) cuts.now) }
+    requires { numbers_given cuts.now ≡ range_with_len 0 (length before.items) }
+    ensures { IfOk result (λ made. map (cut_list limit) made.items
+        ≡ map (λ c. (c.place, put_in_named limit right.now (map (cut_list limit) before.entry.items) names.now c.origin)) cuts.now) }
 {
-    let mut earlier = Earlier {
-        left: before.into_iter(),
-        taken: 0,
-    };
+    let mut earlier = before.into_iter();
     let mut between = Vec::new(alloc);
-    for cut in cuts {
-        let list = put_in(
-            alloc,
-            limit,
-            right,
-            nothing,
-            names,
-            cut.origin,
-            &mut earlier,
-        )?;
+    let mut ahead = cuts;
+    while let Some((cut, behind)) = ahead.split_first() {
+        let list = put_in(alloc, limit, right, names, cut, &mut earlier)?;
         between.push(Inserted {
             place: cut.place,
             list,
         })?;
+        ahead = behind;
     }
     Ok(between)
 }
@@ -113,63 +98,48 @@ pub fn put_between<'a>(
 fn put_in<'a>(
     alloc: Global,
     limit: u64,
-    right: &'a [Piece],
-    nothing: &'a Standing,
+    right: &'a ReadySide<'a>,
     names: &[Option<Standing>],
-    origin: Origin,
-    earlier: &mut Earlier<'a>,
+    cut: &Cut,
+    earlier: &mut IntoIter<Inserted<'a>>,
 ) -> Result<Part<'a>, AllocError>
-    requires { nothing.now ≡ no_meanings }
-    ensures { (all : List (ℕ × Listing)) → map (cut_list limit) (into_iter_items earlier.old.left) ≡ drop earlier.old.taken all →
-        IfOk result (λ list. (map (cut_list limit) (into_iter_items earlier.new.left) ≡ drop earlier.new.taken all)
-        × ((s : Sum) → right.now ≡ pieces_of_sum s → part_list limit list ≡ put_in_named limit s all names.now origin)) }
+    requires { is_by_match cut.now.origin ≡ false → 0 < into_iter_len earlier.old }
+    ensures { (taken : ℕ) (all : List (ℕ × Listing)) → map (cut_list limit) (into_iter_items earlier.old) ≡ drop taken all → ComesAt taken cut.now.origin →
+        IfOk result (λ list. (map (cut_list limit) (into_iter_items earlier.new) ≡ drop (taken_after cut.now.origin taken) all)
+        × (part_list limit list ≡ put_in_named limit right.now all names.now cut.now.origin)) }
 {
-    match origin {
-        Origin::Given(number) => next_earlier(number, earlier),
-        Origin::TakenBy(number) => right_side_by(alloc, limit, right, nothing, names, number),
+    match cut.origin {
+        Origin::Given(_) => Ok(next_earlier(earlier)),
+        Origin::TakenBy(number) => right_side_by(alloc, limit, right, names, number),
     }
 }
 
-/// What was put in at an earlier cut. Cuts keep their order, so it is the next one; that it is isn't proved, and another
-/// one would be told as want of memory.
-fn next_earlier<'a>(number: u32, earlier: &mut Earlier<'a>) -> Result<Part<'a>, AllocError>
-    ensures { (max : ℕ) (all : List (ℕ × Listing)) → map (cut_list max) (into_iter_items earlier.old.left) ≡ drop earlier.old.taken all →
-        IfOk result (λ list. (map (cut_list max) (into_iter_items earlier.new.left) ≡ drop earlier.new.taken all)
-        × (part_list max list ≡ (slice_index_or all number no_list).1)) }
+/// What was put in at the next earlier cut.
+fn next_earlier<'a>(earlier: &mut IntoIter<Inserted<'a>>) -> Part<'a>
+    requires { 0 < into_iter_len earlier.old }
+    ensures { (max taken : ℕ) (all : List (ℕ × Listing)) → map (cut_list max) (into_iter_items earlier.old) ≡ drop taken all →
+        (map (cut_list max) (into_iter_items earlier.new) ≡ drop (taken + 1) all) × (part_list max result ≡ (slice_index_or all taken no_list).1) }
 {
-    if earlier.taken != number {
-        return Err(AllocError);
-    }
-    let Some(one) = earlier.left.next() else {
-        return Err(AllocError);
+    let Some(one) = earlier.next() else {
+        unreachable!()
     };
-    earlier.taken = next_number(number)?;
     let Inserted { place: _, list } = one;
-    Ok(list)
-}
-
-fn next_number(number: u32) -> Result<u32, AllocError>
-    ensures { IfOk result (λ n. n ≡ number + 1) }
-{
-    number.checked_add(1).ok_or(AllocError)
+    list
 }
 
 /// The right side by what names stand for in a match.
 fn right_side_by<'a>(
     alloc: Global,
     limit: u64,
-    right: &'a [Piece],
-    nothing: &'a Standing,
+    right: &'a ReadySide<'a>,
     names: &[Option<Standing>],
-    number: u32,
+    number: usize,
 ) -> Result<Part<'a>, AllocError>
-    requires { nothing.now ≡ no_meanings }
-    ensures { (s : Sum) → right.now ≡ pieces_of_sum s →
-        IfOk result (λ list. part_list limit list ≡ list_of_sum limit (names_in (slice_index_or names.now number None)) s) }
+    ensures { IfOk result (λ list. part_list limit list ≡ list_of_sum limit (names_in (slice_index_or names.now number None)) right.now) }
 {
-    match names.get(number as usize) {
-        Some(names) => right_side(alloc, limit, right, nothing, names),
-        None => right_side(alloc, limit, right, nothing, &None),
+    match names.get(number) {
+        Some(names) => right_side(alloc, limit, right, names),
+        None => right_side(alloc, limit, right, &None),
     }
 }
 
@@ -179,21 +149,23 @@ pub fn row_of<'a>(
     limit: u64,
     item: Monomial,
     between: Vec<Inserted<'a>>,
-    behind: Vec<Part<'a>>,
+    behind: Vec<Run<'a>>,
 ) -> Result<Row<'a>, AllocError>
-    ensures { IfOk result (λ row. row ≡ list_of_rest limit item (record { left = item.term; cuts = map (cut_list limit) between.entry.items; behind = map (part_list limit) behind.entry.items; has_matched = true })) }
+    ensures { IfOk result (λ row. row ≡ list_of_rest limit item (record { left = item.term; cuts = map (cut_list limit) between.entry.items; behind = lists_of limit behind.entry.items; has_matched = true })) }
 {
     let Some(start) = first_place(&between) else {
-        return Row::new(alloc, limit, item, behind);
+        return Row::of_runs(alloc, limit, item, behind);
     };
     let Monomial { coefficient, term } = item;
-    let front = with_front(alloc, &term, start)?;
+    let _ = term.powers();
+    let lists = with_words(alloc, &term, start, between)?;
+    let front = with_front(alloc, term, start)?;
     let first = Monomial {
         coefficient,
         term: front,
     };
-    let lists = with_words(alloc, &term, start, between)?;
-    Row::new(alloc, limit, first, with_behind(lists, behind)?)
+    let runs = runs_of(alloc, lists)?;
+    Row::of_runs(alloc, limit, first, with_behind(runs, behind)?)
 }
 
 /// The place of the first cut.
@@ -248,13 +220,24 @@ fn with_word<'a>(
     Ok(lists)
 }
 
-/// Lists, and other lists behind them.
-fn with_behind<'a>(lists: Vec<Part<'a>>, behind: Vec<Part<'a>>) -> Result<Vec<Part<'a>>, AllocError>
-    ensures { IfOk result (λ made. made.items ≡ lists.entry.items ++ behind.entry.items) }
+/// Lists as runs, each once.
+fn runs_of<'a>(alloc: Global, lists: Vec<Part<'a>>) -> Result<Vec<Run<'a>>, AllocError>
+    ensures { IfOk result (λ runs. (max : ℕ) → lists_of max runs.items ≡ map (part_list max) lists.entry.items) }
 {
-    let mut lists = lists;
-    for list in behind {
-        lists.push(list)?;
+    let mut runs = Vec::new(alloc);
+    for list in lists {
+        runs.push(Run::Once(list))?;
     }
-    Ok(lists)
+    Ok(runs)
+}
+
+/// Runs of lists, and others behind them.
+fn with_behind<'a>(runs: Vec<Run<'a>>, behind: Vec<Run<'a>>) -> Result<Vec<Run<'a>>, AllocError>
+    ensures { IfOk result (λ all. all.items ≡ runs.entry.items ++ behind.entry.items) }
+{
+    let mut runs = runs;
+    for run in behind {
+        runs.push(run)?;
+    }
+    Ok(runs)
 }

@@ -2,9 +2,8 @@
 ghost use Rattle.std.specs.Prelude.{◌≡◌, ◌++◌, ◌∷◌, [], List, Bool, false, OnErr, OnOk};
 ghost use Rattle.form_term.specs.declared.monomial.Monomial.{Monomial as Output};
 ghost use Rattle.form_flow.specs.Answers.{Carries, is_stop, is_stopped};
-ghost use Rattle.form_flow.specs.Left.{groups_in, outputs_left};
-ghost use Rattle.form_flow.specs.Parts.{AreParts};
-ghost use Rattle.form_flow.specs.Rewriting.{Part as AsTrees, outputs as outputs_of};
+ghost use Rattle.form_flow.specs.Left.{outputs_left};
+ghost use Rattle.form_flow.specs.Statements.{outputs as outputs_of};
 
 use crate::compiled::CompiledModule;
 use crate::outputs::Outputs;
@@ -47,9 +46,8 @@ pub enum End {
 
 impl<'a> CompiledModule<'a> {
     /// Gives what a term becomes to `out`, one by one.
-    pub fn carry<E: Emit>(&'a self, alloc: Global, value: Frac, term: &Term, out: &mut E) -> End
-        ensures carried { (pss : List (List AsTrees)) → AreParts self.now.groups pss →
-            Carries (E.emitted out.old) (outputs_of self.now.limit pss (record { coefficient = value; term = term.now })) (E.emitted out.new) result }
+    pub fn carry<E: Emit>(&self, alloc: Global, value: Frac, term: &Term, out: &mut E) -> End
+        ensures carried { Carries (E.emitted out.old) (outputs_of self.now (record { coefficient = value; term = term.now })) (E.emitted out.new) result }
         ensures stopped { E.has_stopped out.old ≡ false → E.has_stopped out.new ≡ is_stopped result }
     {
         let Ok(term) = term.clone() else {
@@ -65,12 +63,10 @@ impl<'a> CompiledModule<'a> {
 
 /// Gives all outputs that are left.
 fn emit_all<E: Emit>(alloc: Global, outputs: &mut Outputs, out: &mut E) -> End
-    ensures carried { (pss : List (List AsTrees)) → AreParts (groups_in outputs.old) pss →
-        Carries (E.emitted out.old) (outputs_left outputs.old pss) (E.emitted out.new) result }
+    ensures carried { Carries (E.emitted out.old) (outputs_left outputs.old) (E.emitted out.new) result }
     ensures stopped { E.has_stopped out.old ≡ false → E.has_stopped out.new ≡ is_stopped result }
 {
-    // No term has more outputs than the limit, which is a u64.
-    for _made in 0..u64::MAX {
+    loop {
         let item = match outputs.next(alloc) {
             Ok(Some(item)) => item,
             Ok(None) => return End::Done,
@@ -83,5 +79,4 @@ fn emit_all<E: Emit>(alloc: Global, outputs: &mut Outputs, out: &mut E) -> End
             Err(AllocError) => return End::Memory,
         }
     }
-    End::Memory
 }

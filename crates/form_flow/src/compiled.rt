@@ -1,229 +1,346 @@
-ghost use Rattle.std.specs.Prelude.{◌≡◌, ◌+◌, ◌<◌, ◌^◌, OnSome, true, false, IfOk, IfSome, List, map, option_map, slice_get};
-ghost use Rattle.form_term.specs.Term.{is_nil};
-ghost use Rattle.form_tree.specs.Tree.{Argument, pieces_of_argument};
+ghost use Rattle.std.specs.Prelude.{◌≡◌, ◌∷◌, ◌<◌, [], All, IfOk, IfSome, map};
+ghost use Rattle.form_cond.specs.Condition.{AreReady};
+ghost use Rattle.form_expand.specs.Expanding.{list_of_sum};
 ghost use Rattle.form_expand.specs.Meanings.{no_meanings};
-ghost use Rattle.form_flow.specs.Groups.{and_rewriting, groups_of, with_rewriting};
-ghost use Rattle.form_flow.specs.Left.{groups_in, outputs_left};
-ghost use Rattle.form_flow.specs.Ready.{AreAllReady, AreReady, IsReady, compiled, rewriting_of, rewritings_of};
-ghost use Rattle.form_flow.specs.Rewriting.{Part, outputs as outputs_of, table_of};
+ghost use Rattle.form_expand.specs.Walks.{all_of};
+ghost use Rattle.form_flow.specs.Left.{outputs_left};
+ghost use Rattle.form_flow.specs.Making.{HasAllTrees, HasTree, compiled};
+ghost use Rattle.form_flow.specs.Ready.{IsBuilt, kept_of, part_in, pattern_in};
+ghost use Rattle.form_flow.specs.Statements.{outputs as outputs_of};
+ghost use Rattle.form_term.specs.Term.{is_nil};
+ghost use Rattle.form_tree.specs.Building.{sum_of};
+ghost use Rattle.form_tree.specs.Tree.{pieces_of_sum};
 
+use crate::compiling::block_of;
 use crate::outputs::Outputs;
-use form_check::{Checked, Rewriting};
-use form_expand::{Standing, argument_pieces};
+use form_ast::Side;
+use form_base::{Action, Block, Branch, Id, Taking};
+use form_check::{CheckedBlock, IdList, PickedList, ValueList};
+use form_expand::{Standing, fixed_list};
 use form_match::Pattern;
-use form_term::{Call, Monomial};
-use form_tree::Tree;
+use form_term::Monomial;
+use form_tree::{Alternatives, Condition, Piece, Tree};
 use std::alloc::{AllocError, Global};
 use std::marker::Model;
+
+/// What names stand for where nothing is bound. It takes no memory.
+pub fn nothing_bound(alloc: Global) -> Standing
+    ensures { result ≡ no_meanings }
+{
+    Standing::from_vec(Vec::new(alloc))
+}
+
+/// A list that is made once has fewer terms.
+const MOST_FIXED: usize = 256;
+
+/// A right side made ready, in a clause its tree. Where its list within a limit is short and isn't refused, it has that.
+#[derive(Drop)]
+pub struct ReadySide<'a> {
+    pieces: &'a [Piece],
+    limit: u64,
+    fixed: Option<Vec<Monomial>>,
+    /// What names stand for where nothing is bound.
+    nothing: Standing,
+}
+
+impl<'a> Model for ReadySide<'a> {
+    ghost use Rattle.std.specs.Prelude.{◌≡◌};
+    ghost use Rattle.form_expand.specs.Meanings.{no_meanings};
+    ghost use Rattle.form_flow.specs.Codes.{sum_code};
+    ghost use Rattle.form_flow.specs.Ready.{IsListOf};
+    ghost use Rattle.form_tree.specs.Building.{sum_of};
+    ghost use Rattle.form_tree.specs.Tree.{Sum, pieces_of_sum};
+
+    ghost Value = { Sum };
+
+    ghost coded = { sum_code };
+
+    ghost view = { λ s. sum_of s.pieces.now };
+
+    ghost invariant = { λ s. (s.pieces.now ≡ pieces_of_sum (sum_of s.pieces.now)) × IsListOf s.limit (sum_of s.pieces.now) s.fixed × (s.nothing ≡ no_meanings) };
+}
 
 /// An `id` or an `also` made ready for a module.
 #[derive(Drop)]
 pub struct CompiledPart<'a> {
-    pub rewriting: &'a Rewriting,
-    pub pattern: Pattern<'a>,
+    option: Option<Taking>,
+    pattern: Pattern<'a>,
+    right: ReadySide<'a>,
 }
 
-/// An `id` with the `also`s behind it.
+impl<'a> Model for CompiledPart<'a> {
+    ghost use Rattle.form_flow.specs.Codes.{part_code};
+    ghost use Rattle.form_flow.specs.Ready.{IsBuilt, Part, part_in};
+
+    ghost Value = { Part };
+
+    ghost coded = { part_code };
+
+    ghost view = { λ p. part_in p.option p.pattern p.right };
+
+    ghost invariant = { λ p. IsBuilt p.pattern };
+}
+
+/// An `id` with the `also`s behind it, in a clause their list.
 #[derive(Drop)]
 pub struct Group<'a> {
-    pub parts: Vec<CompiledPart<'a>>,
+    parts: Vec<CompiledPart<'a>>,
 }
 
-/// The statements of a module that rewrite terms, made ready once: in a clause the most terms that a list may have, and
-/// the statements.
+impl<'a> Model for Group<'a> {
+    ghost use Rattle.std.specs.Coded.{coded_list};
+    ghost use Rattle.std.specs.Prelude.{List};
+    ghost use Rattle.form_flow.specs.Codes.{part_code};
+    ghost use Rattle.form_flow.specs.Ready.{Part};
+
+    ghost Value = { List Part };
+
+    ghost coded = { coded_list part_code };
+
+    ghost view = { λ g. g.parts.items };
+}
+
+/// A condition with its patterns made ready.
+#[derive(Drop)]
+pub struct Question<'a> {
+    condition: &'a Condition,
+    patterns: Vec<Pattern<'a>>,
+}
+
+impl<'a> Model for Question<'a> {
+    ghost use Rattle.std.specs.Prelude.{All, map};
+    ghost use Rattle.form_flow.specs.Codes.{choice_code};
+    ghost use Rattle.form_flow.specs.Ready.{Choice, IsBuilt, pattern_in};
+
+    ghost Value = { Choice };
+
+    ghost coded = { choice_code };
+
+    ghost view = { λ q. record { patterns = map pattern_in q.patterns.items; condition = q.condition.now.alternatives } };
+
+    ghost invariant = { λ q. All IsBuilt q.patterns.items };
+}
+
+/// A statement made ready that is no block.
+#[derive(Drop)]
+pub enum ReadyLeaf<'a> {
+    Rewrite(Group<'a>),
+    Multiply(Side, ReadySide<'a>),
+    /// Indices that become dummies.
+    Sum(IdList),
+    /// An index that takes these values.
+    SumOver(Id, ValueList),
+    Discard,
+}
+
+pub type ReadyBlock<'a> = Block<ReadyLeaf<'a>, Question<'a>, PickedList>;
+
+pub type ReadyAction<'a> = Action<ReadyLeaf<'a>, Question<'a>, PickedList>;
+
+pub type ReadyBranch<'a> = Branch<Question<'a>, ReadyBlock<'a>>;
+
+/// The statements of a module made ready.
+#[derive(Drop)]
+struct Statements<'a> {
+    block: ReadyBlock<'a>,
+}
+
+/// The statements of a module that are carried out on terms, made ready once: in a clause with their limits.
 #[derive(Drop)]
 pub struct CompiledModule<'a> {
     limit: u64,
-    groups: Vec<Group<'a>>,
-    nothing: Standing,
+    turns: u64,
+    statements: Statements<'a>,
 }
 
 impl<'a> Model for CompiledModule<'a> {
-    ghost use Rattle.std.specs.Prelude.{◌≡◌};
-    ghost use Rattle.form_expand.specs.Meanings.{no_meanings};
-    ghost use Rattle.form_flow.specs.Ready.{AreAllReady, Compiled, compiled};
+    ghost use Rattle.form_flow.specs.ModuleCode.{compiled_code};
+    ghost use Rattle.form_flow.specs.Statement.{Compiled};
 
     ghost Value = { Compiled };
 
-    ghost view = { λ c. compiled c.limit c.groups.items };
+    ghost coded = { compiled_code };
 
-    ghost invariant = { λ c. AreAllReady c.limit c.groups.items × (c.nothing ≡ no_meanings) };
+    ghost view = { λ c. record { limits = record { terms = c.limit; turns = c.turns }; statements = c.statements.block } };
+}
+
+impl<'a> ReadySide<'a> {
+    /// A right side with its list within this limit, where that is short and isn't refused.
+    pub fn new(alloc: Global, limit: u64, right: &'a Tree) -> Result<ReadySide<'a>, AllocError>
+        requires { HasTree right.now }
+        ensures { IfOk result (λ made. made ≡ sum_of right.now) }
+    {
+        let nothing = nothing_bound(alloc);
+        let pieces = right.as_slice();
+        let fixed = fixed_list(alloc, pieces, limit, &nothing, MOST_FIXED)?;
+        Ok(ReadySide {
+            pieces,
+            limit,
+            fixed,
+            nothing,
+        })
+    }
+
+    /// Its pieces.
+    pub fn pieces(&self) -> &'a [Piece]
+        ensures { result.now ≡ pieces_of_sum self.now }
+    {
+        self.pieces
+    }
+
+    /// What names stand for in it where nothing is bound.
+    pub fn nothing(&self) -> &Standing
+        ensures { result.now ≡ no_meanings }
+    {
+        &self.nothing
+    }
+
+    /// Its list within this limit, where it has that and a term may stand there.
+    pub fn list_within(&self, limit: u64) -> Option<&[Monomial]>
+        ensures list { IfSome result (λ list. list_of_sum limit no_meanings self.now ≡ all_of list.now) }
+        ensures some { IfSome result (λ _. 0 < limit) }
+    {
+        if limit == 0 {
+            return None;
+        }
+        if limit != self.limit {
+            return None;
+        }
+        match &self.fixed {
+            Some(list) => Some(list.as_slice()),
+            None => None,
+        }
+    }
+}
+
+impl<'a> CompiledPart<'a> {
+    pub fn new(
+        option: Option<Taking>,
+        pattern: Pattern<'a>,
+        right: ReadySide<'a>,
+    ) -> CompiledPart<'a>
+        requires { IsBuilt pattern }
+        ensures { result ≡ part_in option pattern.entry right.entry }
+    {
+        CompiledPart {
+            option,
+            pattern,
+            right,
+        }
+    }
+
+    pub fn option(&self) -> Option<Taking>
+        ensures { result ≡ self.now.option }
+    {
+        self.option
+    }
+
+    pub fn pattern(&self) -> &Pattern<'a>
+        ensures { result.now ≡ kept_of self.now }
+    {
+        &self.pattern
+    }
+
+    pub fn right(&self) -> &ReadySide<'a>
+        ensures { result.now ≡ self.now.right }
+    {
+        &self.right
+    }
+}
+
+impl<'a> Group<'a> {
+    pub fn from_vec(parts: Vec<CompiledPart<'a>>) -> Group<'a>
+        ensures { result ≡ parts.entry.items }
+    {
+        Group { parts }
+    }
+
+    /// Its only part, where it has one.
+    pub fn only(&self) -> Option<&CompiledPart<'a>>
+        ensures { IfSome result (λ part. self.now ≡ part.now ∷ []) }
+    {
+        match self.parts.as_slice() {
+            [part] => Some(part),
+            _ => None,
+        }
+    }
+
+    pub fn as_slice(&self) -> &[CompiledPart<'a>]
+        ensures { result.now ≡ self.now }
+    {
+        self.parts.as_slice()
+    }
+}
+
+impl<'a> Question<'a> {
+    pub fn new(condition: &'a Condition, patterns: Vec<Pattern<'a>>) -> Question<'a>
+        requires { All IsBuilt patterns.items }
+        ensures { result ≡ record { patterns = map pattern_in patterns.entry.items; condition = condition.now.alternatives } }
+    {
+        Question {
+            condition,
+            patterns,
+        }
+    }
+
+    pub fn alternatives(&self) -> &Alternatives
+        ensures { result.now ≡ self.now.condition }
+    {
+        &self.condition.alternatives
+    }
+
+    pub fn patterns(&self) -> &[Pattern<'a>]
+        ensures { AreReady result.now self.now.patterns }
+    {
+        self.patterns.as_slice()
+    }
 }
 
 impl<'a> CompiledModule<'a> {
+    /// `checked` within these limits: the most terms of a list, and the most turns of a `repeat`.
     pub fn new(
         alloc: Global,
         limit: u64,
-        statements: &'a [Checked],
+        turns: u64,
+        checked: &'a CheckedBlock,
     ) -> Result<CompiledModule<'a>, AllocError>
-        ensures { IfOk result (λ made. made ≡ record { limit = limit; groups = groups_of statements.now }) }
+        requires { All HasAllTrees checked.now }
+        ensures { IfOk result (λ made. made ≡ compiled limit turns checked.now) }
     {
-        let nothing = Standing::from_vec(Vec::new(alloc));
-        let groups = groups(alloc, limit, &nothing, statements)?;
+        let block = block_of(alloc, limit, checked)?;
+        let statements = Statements { block };
         Ok(CompiledModule {
             limit,
-            groups,
-            nothing,
+            turns,
+            statements,
         })
     }
 
     /// Whether there are no such statements.
     pub fn is_empty(&self) -> bool
-        ensures { result ≡ is_nil self.now.groups }
+        ensures { result ≡ is_nil self.now.statements }
     {
-        self.groups.is_empty()
+        self.statements.block.as_slice().is_empty()
     }
 
     /// What a term becomes, one by one.
-    pub fn outputs(&'a self, alloc: Global, item: Monomial) -> Outputs<'a>
-        ensures groups { groups_in result ≡ self.now.groups }
-        ensures left { (pss : List (List Part)) → outputs_left result pss ≡ outputs_of self.now.limit pss item }
+    pub fn outputs<'m>(&'m self, alloc: Global, item: Monomial) -> Outputs<'m, 'a>
+        ensures { outputs_left result ≡ outputs_of self.now item }
     {
-        Outputs::new(alloc, self, item)
+        Outputs::new(alloc, self, &self.statements.block, item)
     }
 
+    /// The most terms of a list.
     pub(crate) fn limit(&self) -> u64
-        ensures { result ≡ self.now.limit }
+        ensures { result ≡ self.now.limits.terms }
     {
         self.limit
     }
 
-    /// A statement by its place.
-    pub(crate) fn group(&self, place: usize) -> Option<&Group<'a>>
-        ensures rewritings { option_map (λ g. rewritings_of g.now) result ≡ slice_get self.now.groups place }
-        ensures ready { IfSome result (λ g. AreReady self.now.limit g.now) }
-        ensures room { OnSome result (place + 1 < 2 ^ 64) }
+    /// The most turns of a `repeat`.
+    pub(crate) fn turns(&self) -> u64
+        ensures { result ≡ self.now.limits.turns }
     {
-        self.groups.get(place)
+        self.turns
     }
-
-    /// What names stand for where nothing is bound.
-    pub(crate) fn nothing(&self) -> &Standing
-        ensures { result.now ≡ no_meanings }
-    {
-        &self.nothing
-    }
-}
-
-/// The statements of a module made ready.
-fn groups<'a>(
-    alloc: Global,
-    limit: u64,
-    nothing: &Standing,
-    statements: &'a [Checked],
-) -> Result<Vec<Group<'a>>, AllocError>
-    requires { nothing.now ≡ no_meanings }
-    ensures groups { IfOk result (λ made. map rewritings_of made.items ≡ groups_of statements.now) }
-    ensures ready { IfOk result (λ made. AreAllReady limit made.items) }
-{
-    let mut groups = Vec::new(alloc);
-    for statement in statements {
-        groups = and_statement(alloc, limit, nothing, groups, statement)?;
-    }
-    Ok(groups)
-}
-
-fn and_statement<'a>(
-    alloc: Global,
-    limit: u64,
-    nothing: &Standing,
-    groups: Vec<Group<'a>>,
-    statement: &'a Checked,
-) -> Result<Vec<Group<'a>>, AllocError>
-    requires nothing { nothing.now ≡ no_meanings }
-    requires groups { AreAllReady limit groups.items }
-    ensures groups { IfOk result (λ made. map rewritings_of made.items ≡ and_rewriting (map rewritings_of groups.entry.items) statement.now) }
-    ensures ready { IfOk result (λ made. AreAllReady limit made.items) }
-{
-    match statement {
-        Checked::Rewrite(is_also, rewriting) => {
-            let part = compiled_part(alloc, limit, nothing, rewriting)?;
-            if *is_also {
-                with_also(alloc, limit, groups, part)
-            } else {
-                with_group(alloc, limit, groups, part)
-            }
-        }
-        Checked::Drop(_) => Ok(groups),
-        Checked::Skip(_) => Ok(groups),
-        Checked::Local(_, _) => Ok(groups),
-        Checked::Print(_) => Ok(groups),
-    }
-}
-
-/// A part more of the last group.
-fn with_also<'a>(
-    alloc: Global,
-    limit: u64,
-    groups: Vec<Group<'a>>,
-    part: CompiledPart<'a>,
-) -> Result<Vec<Group<'a>>, AllocError>
-    requires groups { AreAllReady limit groups.items }
-    requires part { IsReady limit part }
-    ensures groups { IfOk result (λ made. map rewritings_of made.items
-        ≡ with_rewriting (map rewritings_of groups.entry.items) true (rewriting_of part.entry)) }
-    ensures ready { IfOk result (λ made. AreAllReady limit made.items) }
-{
-    let mut groups = groups;
-    let Some(group) = groups.pop() else {
-        return with_group(alloc, limit, groups, part);
-    };
-    let Group { parts } = group;
-    let mut parts = parts;
-    parts.push(part)?;
-    groups.push(Group { parts })?;
-    Ok(groups)
-}
-
-/// A part more, in a group of its own.
-fn with_group<'a>(
-    alloc: Global,
-    limit: u64,
-    groups: Vec<Group<'a>>,
-    part: CompiledPart<'a>,
-) -> Result<Vec<Group<'a>>, AllocError>
-    requires groups { AreAllReady limit groups.items }
-    requires part { IsReady limit part }
-    ensures groups { IfOk result (λ made. map rewritings_of made.items
-        ≡ with_rewriting (map rewritings_of groups.entry.items) false (rewriting_of part.entry)) }
-    ensures ready { IfOk result (λ made. AreAllReady limit made.items) }
-{
-    let mut groups = groups;
-    let mut parts = Vec::new(alloc);
-    parts.push(part)?;
-    groups.push(Group { parts })?;
-    Ok(groups)
-}
-
-fn compiled_part<'a>(
-    alloc: Global,
-    limit: u64,
-    nothing: &Standing,
-    rewriting: &'a Rewriting,
-) -> Result<CompiledPart<'a>, AllocError>
-    requires { nothing.now ≡ no_meanings }
-    ensures rewriting { IfOk result (λ part. rewriting_of part ≡ rewriting.now) }
-    ensures ready { IfOk result (λ part. IsReady limit part) }
-{
-    let fixed = fixed_arguments(alloc, limit, nothing, rewriting.pattern.fixed())?;
-    let pattern = Pattern::new(alloc, rewriting.pattern.pieces(), fixed)?;
-    Ok(CompiledPart { rewriting, pattern })
-}
-
-/// What the arguments without wildcards are.
-fn fixed_arguments(
-    alloc: Global,
-    limit: u64,
-    nothing: &Standing,
-    trees: &[Tree],
-) -> Result<Vec<Option<Call>>, AllocError>
-    requires { nothing.now ≡ no_meanings }
-    ensures { (args : List Argument) → trees.now ≡ map pieces_of_argument args →
-        IfOk result (λ calls. map (option_map (λ c. c.pieces)) calls.items ≡ table_of limit args) }
-{
-    let mut calls = Vec::new(alloc);
-    for tree in trees {
-        calls.push(argument_pieces(alloc, tree.as_slice(), limit, nothing)?)?;
-    }
-    Ok(calls)
 }

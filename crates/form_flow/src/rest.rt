@@ -1,27 +1,33 @@
 //! What is left of a term while the parts of a statement take from it, and the row that comes of that.
-ghost use Rattle.std.specs.Prelude.{◌≡◌, ◌++◌, ◌∷◌, [], IfOk, List, Some, false, flat_map, map, replicate};
+ghost use Rattle.std.specs.List.{range_with_len};
+ghost use Rattle.std.specs.Prelude.{◌≡◌, ◌++◌, ◌∷◌, [], ℕ, IfOk, List, Some, false, flat_map, length, map, replicate};
 ghost use Rattle.form_term.specs.declared.monomial.Monomial.{Monomial as Item};
-ghost use Rattle.form_tree.specs.Tree.{Sum, pieces_of_sum};
 ghost use Rattle.form_expand.specs.Expanding.{list_of_sum};
 ghost use Rattle.form_expand.specs.Left.{row};
-ghost use Rattle.form_expand.specs.Listing.{single};
+ghost use Rattle.form_expand.specs.Listing.{Listing, limited, single};
 ghost use Rattle.form_expand.specs.Meanings.{bound_to, no_meanings};
 ghost use Rattle.form_expand.specs.Paired.{IsPaired};
 ghost use Rattle.form_expand.specs.Parts.{part_list};
-ghost use Rattle.form_flow.specs.Applied.{IsApplied};
-ghost use Rattle.form_flow.specs.Parts.{ArePartsOf, IsPart};
-ghost use Rattle.form_flow.specs.Ready.{AreReady, IsReady, rewriting_of, rewritings_of};
-ghost use Rattle.form_flow.specs.Rests.{cut_list, names_in, rest_in};
-ghost use Rattle.form_flow.specs.Rewriting.{Part as AsTrees, and_part as and_part_of, and_taken as and_taken_of, rest_of, rewritten as rewritten_of, right_with, untouched};
+ghost use Rattle.form_expand.specs.Runs.{lists_of};
+ghost use Rattle.form_expand.specs.Walks.{all_of};
+ghost use Rattle.form_flow.specs.Outcome.{made};
+ghost use Rattle.form_flow.specs.Ready.{Part as AsTrees};
+ghost use Rattle.form_flow.specs.Rests.{cut_list, names_in, numbers_given, rest_in};
+ghost use Rattle.form_flow.specs.Rewriting.{and_part as and_part_of, and_taken as and_taken_of, rest_of, rewritten as rewritten_of, right_with, untouched};
+ghost use Rattle.form_flow.specs.Sources.{HasEffect};
+ghost use Rattle.form_flow.specs.Statements.{or_unchanged};
 
 use crate::between::{Inserted, all_bound, is_any_by_match, places, put_between, row_of};
-use crate::compiled::{CompiledPart, Group};
+use crate::compiled::{CompiledPart, Group, ReadySide};
+use crate::effect::{Effect, Source, times_each};
+use form_ast::Side;
 use form_bindings::Bindings;
-use form_expand::{Paired, Part, Standing, laws, pair, times_list, whole_list};
+use form_expand::{
+    ExpandError, Paired, Part, Run, Standing, Whole, laws, pair, times_list, whole_list,
+};
 use form_frac::Frac;
 use form_rewrite::{Single, Take, Taken, take_out};
 use form_term::{Monomial, Term};
-use form_tree::Piece;
 use std::alloc::{AllocError, Global};
 
 /// What is left of a term, what is put in between the parts of its word and behind it, and whether a part matched.
@@ -30,7 +36,7 @@ pub struct Remaining<'a> {
     pub limit: u64,
     pub left: Term,
     pub between: Vec<Inserted<'a>>,
-    pub behind: Vec<Part<'a>>,
+    pub behind: Vec<Run<'a>>,
     pub has_matched: bool,
 }
 
@@ -39,18 +45,14 @@ pub fn rewritten<'a>(
     alloc: Global,
     limit: u64,
     group: &'a Group<'a>,
-    nothing: &'a Standing,
     item: Monomial,
-) -> Result<Paired<'a>, AllocError>
-    requires ready { AreReady limit group.now }
-    requires nothing { nothing.now ≡ no_meanings }
-    ensures { (ps : List AsTrees) → ArePartsOf (rewritings_of group.now) ps →
-        IfOk result (λ applied. IsApplied item (rewritten_of limit ps item) applied) }
+) -> Result<Effect<'a>, ExpandError>
+    ensures { HasEffect result (or_unchanged item (rewritten_of limit group.now item)) }
 {
-    if let [part] = group.parts.as_slice() {
-        return by_one(alloc, limit, part, nothing, item);
+    match group.only() {
+        Some(part) => by_one(alloc, limit, part, item),
+        None => by_several(alloc, limit, group, item),
     }
-    by_several(alloc, limit, group, nothing, item)
 }
 
 /// What several parts make of a term.
@@ -59,16 +61,12 @@ fn by_several<'a>(
     alloc: Global,
     limit: u64,
     group: &'a Group<'a>,
-    nothing: &'a Standing,
     item: Monomial,
-) -> Result<Paired<'a>, AllocError>
-    requires ready { AreReady limit group.now }
-    requires nothing { nothing.now ≡ no_meanings }
-    ensures { (ps : List AsTrees) → ArePartsOf (rewritings_of group.now) ps →
-        IfOk result (λ applied. IsApplied item (rewritten_of limit ps item) applied) }
+) -> Result<Effect<'a>, ExpandError>
+    ensures { HasEffect result (or_unchanged item (rewritten_of limit group.now item)) }
 {
     let Monomial { coefficient, term } = item;
-    let rest = rest(alloc, limit, group, nothing, term)?;
+    let rest = rest(alloc, limit, group, term)?;
     put_together(alloc, coefficient, rest)
 }
 
@@ -77,9 +75,9 @@ fn put_together<'a>(
     alloc: Global,
     coefficient: Frac,
     rest: Remaining<'a>,
-) -> Result<Paired<'a>, AllocError>
+) -> Result<Effect<'a>, ExpandError>
     ensures { (ps : List AsTrees) (m : Item) → m.coefficient ≡ coefficient → rest_in rest.entry ≡ rest_of rest.entry.limit ps m.term →
-        IfOk result (λ applied. IsApplied m (rewritten_of rest.entry.limit ps m) applied) }
+        HasEffect result (or_unchanged m (rewritten_of rest.entry.limit ps m)) }
 {
     let Remaining {
         limit,
@@ -93,10 +91,10 @@ fn put_together<'a>(
         term: left,
     };
     if !has_matched {
-        return Ok(Paired::One(left));
+        return Ok(Effect::None(left));
     }
     let row = row_of(alloc, limit, left, between, behind)?;
-    Ok(Paired::Row(Box::new(alloc, row)?))
+    Ok(Effect::Source(Source::Row(Box::new(alloc, row)?)))
 }
 
 /// What a part that has no `also` beside it makes of a term.
@@ -104,28 +102,25 @@ fn by_one<'a>(
     alloc: Global,
     limit: u64,
     part: &'a CompiledPart<'a>,
-    nothing: &'a Standing,
     item: Monomial,
-) -> Result<Paired<'a>, AllocError>
-    requires ready { IsReady limit part.now }
-    requires nothing { nothing.now ≡ no_meanings }
-    ensures { (p : AsTrees) → IsPart (rewriting_of part.now) p →
-        IfOk result (λ applied. IsApplied item (rewritten_of limit (p ∷ []) item) applied) }
+) -> Result<Effect<'a>, ExpandError>
+    ensures { HasEffect result (or_unchanged item (rewritten_of limit (part.now ∷ []) item)) }
 {
-    let option = part.rewriting.option;
-    let right = part.rewriting.right.as_slice();
+    let option = part.option();
+    let pattern = part.pattern();
+    let right = part.right();
     let Monomial { coefficient, term } = item;
-    match take_out(alloc, term, &[], &part.pattern, option)? {
-        Take::Untaken(term) => Ok(Paired::One(Monomial { coefficient, term })),
+    match take_out(alloc, term, &[], pattern, option)? {
+        Take::Untaken(term) => Ok(Effect::None(Monomial { coefficient, term })),
         Take::Single(single) => {
             let Single { left, bindings } = single;
             let left = Monomial {
                 coefficient,
                 term: left,
             };
-            times_right_side(alloc, limit, right, nothing, left, bindings)
+            times_right_side(alloc, limit, right, left, bindings)
         }
-        Take::Several(taken) => put_taken(alloc, limit, right, nothing, coefficient, taken),
+        Take::Several(taken) => put_taken(alloc, limit, right, coefficient, taken),
     }
 }
 
@@ -134,19 +129,18 @@ fn by_one<'a>(
 fn put_taken<'a>(
     alloc: Global,
     limit: u64,
-    right: &'a [Piece],
-    nothing: &'a Standing,
+    right: &'a ReadySide<'a>,
     coefficient: Frac,
     taken: Taken,
-) -> Result<Paired<'a>, AllocError>
-    requires { nothing.now ≡ no_meanings }
-    ensures { (p : AsTrees) (m : Item) → right.now ≡ pieces_of_sum p.right → m.coefficient ≡ coefficient →
+) -> Result<Effect<'a>, ExpandError>
+    requires { numbers_given taken.cuts ≡ [] }
+    ensures { (p : AsTrees) (m : Item) → right.now ≡ p.right → m.coefficient ≡ coefficient →
         and_taken_of limit p.right (untouched m.term) (Some taken) ≡ and_part_of limit (untouched m.term) p →
-        IfOk result (λ applied. IsApplied m (rewritten_of limit (p ∷ []) m) applied) }
+        HasEffect result (or_unchanged m (rewritten_of limit (p ∷ []) m)) }
 {
     let between = Vec::new(alloc);
     let behind = Vec::new(alloc);
-    let rest = and_taken(alloc, limit, right, nothing, between, behind, taken)?;
+    let rest = and_taken(alloc, limit, right, between, behind, taken)?;
     put_together(alloc, coefficient, rest)
 }
 
@@ -168,36 +162,37 @@ fn untaken<'a>(alloc: Global, limit: u64, term: Term) -> Remaining<'a>
 fn times_right_side<'a>(
     alloc: Global,
     limit: u64,
-    right: &'a [Piece],
-    nothing: &'a Standing,
+    right: &'a ReadySide<'a>,
     left: Monomial,
     bindings: Bindings,
-) -> Result<Paired<'a>, AllocError>
-    requires { nothing.now ≡ no_meanings }
-    ensures { (s : Sum) → right.now ≡ pieces_of_sum s →
-        IfOk result (λ paired. IsPaired (row limit (single left ∷ right_with limit s bindings ∷ [])) paired) }
+) -> Result<Effect<'a>, ExpandError>
+    ensures { HasEffect result (made (row limit (single left ∷ right_with limit right.now bindings ∷ []))) }
 {
     laws::lists_of_trees();
     let Some(names) = bound(alloc, bindings) else {
-        return times_tree(alloc, limit, right, nothing, left);
+        return times_side(alloc, limit, right, left);
     };
-    times_list(alloc, limit, right, left, &names)
+    effect_of_pair(times_list(alloc, limit, right.pieces(), left, &names)?)
 }
 
 /// A term, and a right side behind it in which nothing is bound.
 #[inline(never)]
-fn times_tree<'a>(
+fn times_side<'a>(
     alloc: Global,
     limit: u64,
-    right: &'a [Piece],
-    nothing: &'a Standing,
+    right: &'a ReadySide<'a>,
     left: Monomial,
-) -> Result<Paired<'a>, AllocError>
-    ensures { (s : Sum) → right.now ≡ pieces_of_sum s →
-        IfOk result (λ paired. IsPaired (row limit (single left ∷ list_of_sum limit nothing.now s ∷ [])) paired) }
+) -> Result<Effect<'a>, ExpandError>
+    ensures { HasEffect result (made (row limit (single left ∷ list_of_sum limit no_meanings right.now ∷ []))) }
 {
     laws::lists_of_trees();
-    pair(alloc, limit, left, Part::Tree(right, nothing))
+    match right.list_within(limit) {
+        Some(list) => times_each(alloc, Side::Right, left, list),
+        None => {
+            let list = Part::Tree(right.pieces(), right.nothing());
+            effect_of_pair(pair(alloc, limit, left, list)?)
+        }
+    }
 }
 
 /// What is left of a term once all parts took from it.
@@ -205,18 +200,15 @@ fn rest<'a>(
     alloc: Global,
     limit: u64,
     group: &'a Group<'a>,
-    nothing: &'a Standing,
     term: Term,
 ) -> Result<Remaining<'a>, AllocError>
-    requires ready { AreReady limit group.now }
-    requires nothing { nothing.now ≡ no_meanings }
-    ensures rest { (ps : List AsTrees) → ArePartsOf (rewritings_of group.now) ps →
-        IfOk result (λ rest. rest_in rest ≡ rest_of limit ps term) }
+    ensures rest { IfOk result (λ rest. rest_in rest ≡ rest_of limit group.now term) }
     ensures limit { IfOk result (λ rest. rest.limit ≡ limit) }
 {
+    let parts = group.as_slice();
     let mut rest = untaken(alloc, limit, term);
-    for part in &group.parts {
-        rest = and_part(alloc, part, nothing, rest)?;
+    for part in parts {
+        rest = and_part(alloc, part, rest)?;
     }
     Ok(rest)
 }
@@ -225,18 +217,15 @@ fn rest<'a>(
 fn and_part<'a>(
     alloc: Global,
     part: &'a CompiledPart<'a>,
-    nothing: &'a Standing,
     rest: Remaining<'a>,
 ) -> Result<Remaining<'a>, AllocError>
-    requires ready { IsReady rest.limit part.now }
-    requires nothing { nothing.now ≡ no_meanings }
-    ensures rest { (p : AsTrees) → IsPart (rewriting_of part.now) p →
-        IfOk result (λ after. rest_in after ≡ and_part_of rest.entry.limit (rest_in rest.entry) p) }
+    ensures rest { IfOk result (λ after. rest_in after ≡ and_part_of rest.entry.limit (rest_in rest.entry) part.now) }
     ensures limit { IfOk result (λ after. after.limit ≡ rest.entry.limit) }
 {
-    let option = part.rewriting.option;
+    let option = part.option();
+    let pattern = part.pattern();
+    let right = part.right();
     let cuts = places(alloc, &rest.between)?;
-    let right = part.rewriting.right.as_slice();
     let Remaining {
         limit,
         left,
@@ -244,7 +233,7 @@ fn and_part<'a>(
         behind,
         has_matched,
     } = rest;
-    match take_out(alloc, left, &cuts, &part.pattern, option)? {
+    match take_out(alloc, left, &cuts, pattern, option)? {
         Take::Untaken(left) => Ok(Remaining {
             limit,
             left,
@@ -254,9 +243,9 @@ fn and_part<'a>(
         }),
         Take::Single(single) => {
             let taken = single.into_taken(alloc)?;
-            and_taken(alloc, limit, right, nothing, between, behind, taken)
+            and_taken(alloc, limit, right, between, behind, taken)
         }
-        Take::Several(taken) => and_taken(alloc, limit, right, nothing, between, behind, taken),
+        Take::Several(taken) => and_taken(alloc, limit, right, between, behind, taken),
     }
 }
 
@@ -265,15 +254,14 @@ fn and_part<'a>(
 fn and_taken<'a>(
     alloc: Global,
     limit: u64,
-    right: &'a [Piece],
-    nothing: &'a Standing,
+    right: &'a ReadySide<'a>,
     between: Vec<Inserted<'a>>,
-    behind: Vec<Part<'a>>,
+    behind: Vec<Run<'a>>,
     taken: Taken,
 ) -> Result<Remaining<'a>, AllocError>
-    requires { nothing.now ≡ no_meanings }
-    ensures rest { (s : Sum) → right.now ≡ pieces_of_sum s → IfOk result (λ after.
-        rest_in after ≡ and_taken_of limit s (record { left = taken.left; cuts = map (cut_list limit) between.entry.items; behind = map (part_list limit) behind.entry.items; has_matched = false }) (Some taken)) }
+    requires { numbers_given taken.cuts ≡ range_with_len 0 (length between.items) }
+    ensures rest { IfOk result (λ after.
+        rest_in after ≡ and_taken_of limit right.now (record { left = taken.left; cuts = map (cut_list limit) between.entry.items; behind = lists_of limit behind.entry.items; has_matched = false }) (Some taken)) }
     ensures limit { IfOk result (λ after. after.limit ≡ limit) }
 {
     let Taken {
@@ -286,7 +274,7 @@ fn and_taken<'a>(
     let matches = matches.into_vec();
     if is_any_by_match(cuts) {
         let names = all_bound(alloc, matches)?;
-        let between = put_between(alloc, limit, right, nothing, &names, cuts, between)?;
+        let between = put_between(alloc, limit, right, &names, cuts, between)?;
         return Ok(Remaining {
             limit,
             left,
@@ -295,8 +283,8 @@ fn and_taken<'a>(
             has_matched: true,
         });
     }
-    let between = put_between(alloc, limit, right, nothing, &[], cuts, between)?;
-    let behind = put_all(alloc, limit, right, nothing, matches, times, behind)?;
+    let between = put_between(alloc, limit, right, &[], cuts, between)?;
+    let behind = put_all(alloc, limit, right, matches, times, behind)?;
     Ok(Remaining {
         limit,
         left,
@@ -310,19 +298,17 @@ fn and_taken<'a>(
 fn put_all<'a>(
     alloc: Global,
     limit: u64,
-    right: &'a [Piece],
-    nothing: &'a Standing,
+    right: &'a ReadySide<'a>,
     matches: Vec<Bindings>,
     times: u32,
-    behind: Vec<Part<'a>>,
-) -> Result<Vec<Part<'a>>, AllocError>
-    requires { nothing.now ≡ no_meanings }
-    ensures { (s : Sum) → right.now ≡ pieces_of_sum s → IfOk result (λ lists. map (part_list limit) lists.items
-        ≡ map (part_list limit) behind.entry.items ++ flat_map (λ bs. replicate times (right_with limit s bs)) matches.items) }
+    behind: Vec<Run<'a>>,
+) -> Result<Vec<Run<'a>>, AllocError>
+    ensures { IfOk result (λ lists. lists_of limit lists.items
+        ≡ lists_of limit behind.entry.items ++ flat_map (λ bs. replicate times (right_with limit right.now bs)) matches.items) }
 {
     let mut behind = behind;
     for bindings in matches {
-        behind = put_behind(alloc, limit, right, nothing, bindings, times, behind)?;
+        behind = put_behind(alloc, limit, right, bindings, times, behind)?;
     }
     Ok(behind)
 }
@@ -331,36 +317,82 @@ fn put_all<'a>(
 fn put_behind<'a>(
     alloc: Global,
     limit: u64,
-    right: &'a [Piece],
-    nothing: &'a Standing,
+    right: &'a ReadySide<'a>,
     bindings: Bindings,
     times: u32,
-    behind: Vec<Part<'a>>,
-) -> Result<Vec<Part<'a>>, AllocError>
-    requires { nothing.now ≡ no_meanings }
-    ensures { (s : Sum) → right.now ≡ pieces_of_sum s → IfOk result (λ lists.
-        map (part_list limit) lists.items ≡ map (part_list limit) behind.entry.items ++ replicate times (right_with limit s bindings)) }
+    behind: Vec<Run<'a>>,
+) -> Result<Vec<Run<'a>>, AllocError>
+    ensures { IfOk result (λ lists.
+        lists_of limit lists.items ≡ lists_of limit behind.entry.items ++ replicate times (right_with limit right.now bindings)) }
 {
     let names = bound(alloc, bindings);
-    put_times(alloc, limit, right, nothing, &names, times, behind)
+    put_times(alloc, limit, right, &names, times, behind)
 }
 
 fn put_times<'a>(
     alloc: Global,
     limit: u64,
-    right: &'a [Piece],
-    nothing: &'a Standing,
+    right: &'a ReadySide<'a>,
     names: &Option<Standing>,
     times: u32,
-    behind: Vec<Part<'a>>,
-) -> Result<Vec<Part<'a>>, AllocError>
-    requires { nothing.now ≡ no_meanings }
-    ensures { (s : Sum) → right.now ≡ pieces_of_sum s → IfOk result (λ lists. map (part_list limit) lists.items
-        ≡ map (part_list limit) behind.entry.items ++ replicate times (list_of_sum limit (names_in names.now) s)) }
+    behind: Vec<Run<'a>>,
+) -> Result<Vec<Run<'a>>, AllocError>
+    ensures { IfOk result (λ lists. lists_of limit lists.items
+        ≡ lists_of limit behind.entry.items ++ replicate times (list_of_sum limit (names_in names.now) right.now)) }
+{
+    match names {
+        Some(_) => put_copies(alloc, limit, right, names, times, behind),
+        None => put_unbound(alloc, limit, right, times, behind),
+    }
+}
+
+/// The right side, in which nothing is bound, so many times, behind other lists.
+fn put_unbound<'a>(
+    alloc: Global,
+    limit: u64,
+    right: &'a ReadySide<'a>,
+    times: u32,
+    behind: Vec<Run<'a>>,
+) -> Result<Vec<Run<'a>>, AllocError>
+    ensures { IfOk result (λ lists. lists_of limit lists.items
+        ≡ lists_of limit behind.entry.items ++ replicate times (list_of_sum limit no_meanings right.now)) }
+{
+    laws::lists_of_trees();
+    match right.list_within(limit) {
+        Some(list) => put_run(behind, list, times),
+        None => put_copies(alloc, limit, right, &None, times, behind),
+    }
+}
+
+/// The list of these terms, so many times, behind other lists.
+fn put_run<'a>(
+    behind: Vec<Run<'a>>,
+    list: &'a [Monomial],
+    times: u32,
+) -> Result<Vec<Run<'a>>, AllocError>
+    ensures { IfOk result (λ lists. (max : ℕ) → lists_of max lists.items
+        ≡ lists_of max behind.entry.items ++ replicate times (limited max (all_of list.now))) }
+{
+    let mut behind = behind;
+    behind.push(Run::Often(list, times))?;
+    Ok(behind)
+}
+
+/// The right side by what names stand for, so many times, behind other lists, each as a list of its own.
+fn put_copies<'a>(
+    alloc: Global,
+    limit: u64,
+    right: &'a ReadySide<'a>,
+    names: &Option<Standing>,
+    times: u32,
+    behind: Vec<Run<'a>>,
+) -> Result<Vec<Run<'a>>, AllocError>
+    ensures { IfOk result (λ lists. lists_of limit lists.items
+        ≡ lists_of limit behind.entry.items ++ replicate times (list_of_sum limit (names_in names.now) right.now)) }
 {
     let mut behind = behind;
     for _made in 0..times {
-        behind.push(right_side(alloc, limit, right, nothing, names)?)?;
+        behind.push(Run::Once(right_side(alloc, limit, right, names)?))?;
     }
     Ok(behind)
 }
@@ -379,20 +411,40 @@ pub fn bound(alloc: Global, bindings: Bindings) -> Option<Standing>
 pub fn right_side<'a>(
     alloc: Global,
     limit: u64,
-    right: &'a [Piece],
-    nothing: &'a Standing,
+    right: &'a ReadySide<'a>,
     names: &Option<Standing>,
 ) -> Result<Part<'a>, AllocError>
-    requires { nothing.now ≡ no_meanings }
-    ensures { (s : Sum) → right.now ≡ pieces_of_sum s →
-        IfOk result (λ list. part_list limit list ≡ list_of_sum limit (names_in names.now) s) }
+    ensures { IfOk result (λ list. part_list limit list ≡ list_of_sum limit (names_in names.now) right.now) }
 {
     laws::lists_of_trees();
     match names {
-        None => Ok(Part::Tree(right, nothing)),
+        None => Ok(unbound_side(limit, right)),
         Some(names) => {
-            let whole = whole_list(alloc, right, limit, names)?;
+            let whole = whole_list(alloc, right.pieces(), limit, names)?;
             Ok(Part::List(whole))
         }
+    }
+}
+
+/// A right side in which nothing is bound, as a list of a row.
+fn unbound_side<'a>(limit: u64, right: &'a ReadySide<'a>) -> Part<'a>
+    ensures { part_list limit result ≡ list_of_sum limit no_meanings right.now }
+{
+    laws::lists_of_trees();
+    match right.list_within(limit) {
+        Some(list) => Part::List(Whole::lent(list)),
+        None => Part::Tree(right.pieces(), right.nothing()),
+    }
+}
+
+/// What came of a term that a row was made of.
+fn effect_of_pair<'a>(paired: Paired<'a>) -> Result<Effect<'a>, ExpandError>
+    ensures { (l : Listing) → IsPaired l paired.entry → HasEffect result (made l) }
+{
+    match paired {
+        Paired::One(item) => Ok(Effect::One(item)),
+        Paired::Nothing => Ok(Effect::Nothing),
+        Paired::Refused(cause) => Err(ExpandError::Refused(cause)),
+        Paired::Row(row) => Ok(Effect::Source(Source::Row(row))),
     }
 }

@@ -1,25 +1,25 @@
 //! Stretches of the word of a term.
-ghost use Rattle.std.specs.Prelude.{◌≡◌, IfOk, OnOk, drop, take};
+ghost use Rattle.std.specs.Prelude.{◌≡◌, IfOk, drop, take};
 ghost use Rattle.form_term.specs.Term.{IsTerm};
 ghost use Rattle.form_flow.specs.Words.{front, of_word};
 
 use form_term::{Call, Others, Term};
 use std::alloc::{AllocError, Global};
 
-/// A term with so many functions of its word, from the left.
-pub fn with_front(alloc: Global, term: &Term, count: usize) -> Result<Term, AllocError>
-    ensures front { IfOk result (λ t. t ≡ front count term.now) }
-    ensures lawful { OnOk result (IsTerm term.now) }
+/// A term with so many functions of its word, from the left. They and its other factors stay in their memory.
+pub fn with_front(alloc: Global, term: Term, count: usize) -> Result<Term, AllocError>
+    ensures { IfOk result (λ t. t ≡ front count term) }
 {
-    let others = Others {
-        is_imaginary: term.is_imaginary(),
-        dots: Vec::from_slice(alloc, term.dots())?,
-        components: Vec::from_slice(alloc, term.components())?,
-        deltas: Vec::from_slice(alloc, term.deltas())?,
-        functions: copies(alloc, term.functions())?,
-        word: copies(alloc, stretch(term.word(), 0, count))?,
-    };
-    Term::from_factors(alloc, Vec::from_slice(alloc, term.powers())?, others)
+    let (powers, mut others) = term.into_factors(alloc);
+    keep_first(&mut others.word, count);
+    Term::from_factors(alloc, powers, others)
+}
+
+/// Leaves so many functions of a word, from the left.
+fn keep_first(word: &mut Vec<Call>, count: usize)
+    ensures { word.new.items ≡ take count word.old.items }
+{
+    word.truncate(count);
 }
 
 /// So many functions of the word of a term, from a place on, as a term, where there are some.

@@ -498,6 +498,9 @@ takes_first g by_terminal.Question h = absurd h
 takes_first g by_terminal.OpenBrace h = refl
 takes_first g by_terminal.CloseBrace h = refl
 takes_first g by_terminal.Colon h = refl
+takes_first g by_terminal.And h = refl
+takes_first g by_terminal.Or h = refl
+takes_first g (by_terminal.Comparison m) h = refl
 takes_first g by_terminal.Other h = refl
 
 takes_further : (g : Setting) → TakesSum g by_expected.FurtherArgument
@@ -518,6 +521,9 @@ takes_further g by_terminal.Question h = absurd h
 takes_further g by_terminal.OpenBrace h = refl
 takes_further g by_terminal.CloseBrace h = refl
 takes_further g by_terminal.Colon h = refl
+takes_further g by_terminal.And h = refl
+takes_further g by_terminal.Or h = refl
+takes_further g (by_terminal.Comparison m) h = refl
 takes_further g by_terminal.Other h = refl
 
 -- where an argument is expected a field may be

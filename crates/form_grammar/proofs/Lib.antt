@@ -1,4 +1,5 @@
 pub mod Complete
+pub mod Deep
 pub mod Ended
 pub mod Lasts
 pub mod Parts

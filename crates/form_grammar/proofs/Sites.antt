@@ -261,6 +261,9 @@ follows g slot by_terminal.Question h = refl
 follows g slot by_terminal.OpenBrace h = absurd h
 follows g slot by_terminal.CloseBrace h = refl
 follows g slot by_terminal.Colon h = refl
+follows g slot by_terminal.And h = refl
+follows g slot by_terminal.Or h = refl
+follows g slot (by_terminal.Comparison m) h = refl
 follows g slot by_terminal.Other h = refl
 
 pub as_expected : (g : Setting) (slot : Slot) (t : Terminal) → effect_of g (behind_wildcard slot) t ≡ follower_effect g slot t

@@ -216,6 +216,9 @@ from_factor g around b by_terminal.Question next h e = absurd cc
 from_factor g around b by_terminal.OpenBrace next h e = absurd cc
 from_factor g around b by_terminal.CloseBrace next h e = absurd cc
 from_factor g around b by_terminal.Colon next h e = absurd cc
+from_factor g around b by_terminal.And next h e = absurd cc
+from_factor g around b by_terminal.Or next h e = absurd cc
+from_factor g around b (by_terminal.Comparison m) next h e = absurd cc
 from_factor g around b by_terminal.Other next h e = absurd cc
 
 -- ---- where an argument is expected
@@ -280,6 +283,9 @@ from_argument g around b n by_terminal.Question next h e =
 from_argument g around b n by_terminal.OpenBrace next h e = as_factor g around b n by_terminal.OpenBrace next (from_factor g (in_arguments b n None ∷ around) (lead (start None)) by_terminal.OpenBrace next (in_front g around b n None h) e)
 from_argument g around b n by_terminal.CloseBrace next h e = as_factor g around b n by_terminal.CloseBrace next (from_factor g (in_arguments b n None ∷ around) (lead (start None)) by_terminal.CloseBrace next (in_front g around b n None h) e)
 from_argument g around b n by_terminal.Colon next h e = as_factor g around b n by_terminal.Colon next (from_factor g (in_arguments b n None ∷ around) (lead (start None)) by_terminal.Colon next (in_front g around b n None h) e)
+from_argument g around b n by_terminal.And next h e = as_factor g around b n by_terminal.And next (from_factor g (in_arguments b n None ∷ around) (lead (start None)) by_terminal.And next (in_front g around b n None h) e)
+from_argument g around b n by_terminal.Or next h e = as_factor g around b n by_terminal.Or next (from_factor g (in_arguments b n None ∷ around) (lead (start None)) by_terminal.Or next (in_front g around b n None h) e)
+from_argument g around b n (by_terminal.Comparison m) next h e = as_factor g around b n (by_terminal.Comparison m) next (from_factor g (in_arguments b n None ∷ around) (lead (start None)) (by_terminal.Comparison m) next (in_front g around b n None h) e)
 from_argument g around b n by_terminal.Other next h e = as_factor g around b n by_terminal.Other next (from_factor g (in_arguments b n None ∷ around) (lead (start None)) by_terminal.Other next (in_front g around b n None h) e)
 
 from_further : (g : Setting) (around : List Outer) (b : Before) (n : Label) (args : Arguments) (t : Terminal) (next : Reading) → IsLawfulAt g (at_further around b n args)
@@ -308,6 +314,9 @@ from_further g around b n args by_terminal.Question next h e =
 from_further g around b n args by_terminal.OpenBrace next h e = as_further g around b n args by_terminal.OpenBrace next (from_factor g (in_arguments b n (Some args) ∷ around) (lead (start None)) by_terminal.OpenBrace next (in_front g around b n (Some args) h) e)
 from_further g around b n args by_terminal.CloseBrace next h e = as_further g around b n args by_terminal.CloseBrace next (from_factor g (in_arguments b n (Some args) ∷ around) (lead (start None)) by_terminal.CloseBrace next (in_front g around b n (Some args) h) e)
 from_further g around b n args by_terminal.Colon next h e = as_further g around b n args by_terminal.Colon next (from_factor g (in_arguments b n (Some args) ∷ around) (lead (start None)) by_terminal.Colon next (in_front g around b n (Some args) h) e)
+from_further g around b n args by_terminal.And next h e = as_further g around b n args by_terminal.And next (from_factor g (in_arguments b n (Some args) ∷ around) (lead (start None)) by_terminal.And next (in_front g around b n (Some args) h) e)
+from_further g around b n args by_terminal.Or next h e = as_further g around b n args by_terminal.Or next (from_factor g (in_arguments b n (Some args) ∷ around) (lead (start None)) by_terminal.Or next (in_front g around b n (Some args) h) e)
+from_further g around b n args (by_terminal.Comparison m) next h e = as_further g around b n args (by_terminal.Comparison m) next (from_factor g (in_arguments b n (Some args) ∷ around) (lead (start None)) (by_terminal.Comparison m) next (in_front g around b n (Some args) h) e)
 from_further g around b n args by_terminal.Other next h e = as_further g around b n args by_terminal.Other next (from_factor g (in_arguments b n (Some args) ∷ around) (lead (start None)) by_terminal.Other next (in_front g around b n (Some args) h) e)
 
 named_field : (g : Setting) (around : List Outer) (b : Before) (n : Label) (args : Option Arguments) (m : Spelled) (next : Reading) → IsLawfulAt g (at_field_name around b n args)
@@ -338,6 +347,9 @@ from_field_name g around b n args by_terminal.Question next h e = absurd cc
 from_field_name g around b n args by_terminal.OpenBrace next h e = absurd cc
 from_field_name g around b n args by_terminal.CloseBrace next h e = absurd cc
 from_field_name g around b n args by_terminal.Colon next h e = absurd cc
+from_field_name g around b n args by_terminal.And next h e = absurd cc
+from_field_name g around b n args by_terminal.Or next h e = absurd cc
+from_field_name g around b n args (by_terminal.Comparison m) next h e = absurd cc
 from_field_name g around b n args by_terminal.Other next h e = absurd cc
 
 -- ---- powers
@@ -471,6 +483,9 @@ from_exponent g around b base is_parenthesized sign by_terminal.Question next h 
 from_exponent g around b base is_parenthesized sign by_terminal.OpenBrace next h e = absurd cc
 from_exponent g around b base is_parenthesized sign by_terminal.CloseBrace next h e = absurd cc
 from_exponent g around b base is_parenthesized sign by_terminal.Colon next h e = absurd cc
+from_exponent g around b base is_parenthesized sign by_terminal.And next h e = absurd cc
+from_exponent g around b base is_parenthesized sign by_terminal.Or next h e = absurd cc
+from_exponent g around b base is_parenthesized sign (by_terminal.Comparison m) next h e = absurd cc
 from_exponent g around b base is_parenthesized sign by_terminal.Other next h e = absurd cc
 
 close_at_closing : (g : Setting) (around : List Outer) (b : Before) (base : Base) (sign : Option Sign) (n : Number) (next : Reading) → IsLawfulAt g (at_closing around b base sign n)
@@ -502,6 +517,9 @@ from_closing g around b base sign n by_terminal.Question next h e = absurd cc
 from_closing g around b base sign n by_terminal.OpenBrace next h e = absurd cc
 from_closing g around b base sign n by_terminal.CloseBrace next h e = absurd cc
 from_closing g around b base sign n by_terminal.Colon next h e = absurd cc
+from_closing g around b base sign n by_terminal.And next h e = absurd cc
+from_closing g around b base sign n by_terminal.Or next h e = absurd cc
+from_closing g around b base sign n (by_terminal.Comparison m) next h e = absurd cc
 from_closing g around b base sign n by_terminal.Other next h e = absurd cc
 
 -- ---- the sum up to the factor that is complete
@@ -826,6 +844,9 @@ from_operator g around b f by_terminal.Question next h e = mark_at_operator g ar
 from_operator g around b f by_terminal.OpenBrace next h e = absurd cc
 from_operator g around b f by_terminal.CloseBrace next h e = absurd cc
 from_operator g around b f by_terminal.Colon next h e = absurd cc
+from_operator g around b f by_terminal.And next h e = absurd cc
+from_operator g around b f by_terminal.Or next h e = absurd cc
+from_operator g around b f (by_terminal.Comparison m) next h e = absurd cc
 from_operator g around b f by_terminal.Other next h e = absurd cc
 
 -- ---- behind a field
@@ -853,6 +874,9 @@ from_field_end g around b n args k by_terminal.Question next h e = absurd cc
 from_field_end g around b n args k by_terminal.OpenBrace next h e = absurd cc
 from_field_end g around b n args k by_terminal.CloseBrace next h e = absurd cc
 from_field_end g around b n args k by_terminal.Colon next h e = absurd cc
+from_field_end g around b n args k by_terminal.And next h e = absurd cc
+from_field_end g around b n args k by_terminal.Or next h e = absurd cc
+from_field_end g around b n args k (by_terminal.Comparison m) next h e = absurd cc
 from_field_end g around b n args k by_terminal.Other next h e = absurd cc
 
 -- ---- in a dot product and in `d_`
@@ -888,6 +912,9 @@ from_vector g around b p by_terminal.Question next h e = absurd cc
 from_vector g around b p by_terminal.OpenBrace next h e = absurd cc
 from_vector g around b p by_terminal.CloseBrace next h e = absurd cc
 from_vector g around b p by_terminal.Colon next h e = absurd cc
+from_vector g around b p by_terminal.And next h e = absurd cc
+from_vector g around b p by_terminal.Or next h e = absurd cc
+from_vector g around b p (by_terminal.Comparison m) next h e = absurd cc
 from_vector g around b p by_terminal.Other next h e = absurd cc
 
 open_at_delta : (g : Setting) (around : List Outer) (b : Before) (spot : Spot) (next : Reading) → IsLawfulAt g (at_delta around b spot)
@@ -921,6 +948,9 @@ from_delta g around b spot by_terminal.Question next h e = absurd cc
 from_delta g around b spot by_terminal.OpenBrace next h e = absurd cc
 from_delta g around b spot by_terminal.CloseBrace next h e = absurd cc
 from_delta g around b spot by_terminal.Colon next h e = absurd cc
+from_delta g around b spot by_terminal.And next h e = absurd cc
+from_delta g around b spot by_terminal.Or next h e = absurd cc
+from_delta g around b spot (by_terminal.Comparison m) next h e = absurd cc
 from_delta g around b spot by_terminal.Other next h e = absurd cc
 
 first_entry_read : (g : Setting) (around : List Outer) (b : Before) (spot : Spot) (a : Entry) (t : Terminal) (piece : Piece) (next : Reading) → IsLawfulAt g (at_first_entry around b spot)
@@ -953,6 +983,9 @@ from_first_entry g around b spot by_terminal.Question next h e = absurd cc
 from_first_entry g around b spot by_terminal.OpenBrace next h e = absurd cc
 from_first_entry g around b spot by_terminal.CloseBrace next h e = absurd cc
 from_first_entry g around b spot by_terminal.Colon next h e = absurd cc
+from_first_entry g around b spot by_terminal.And next h e = absurd cc
+from_first_entry g around b spot by_terminal.Or next h e = absurd cc
+from_first_entry g around b spot (by_terminal.Comparison m) next h e = absurd cc
 from_first_entry g around b spot by_terminal.Other next h e = absurd cc
 
 comma_at_comma : (g : Setting) (around : List Outer) (b : Before) (spot : Spot) (a : Entry) (next : Reading) → IsLawfulAt g (at_comma around b spot a)
@@ -991,6 +1024,9 @@ from_comma g around b spot a by_terminal.Question next h e = mark_at_comma g aro
 from_comma g around b spot a by_terminal.OpenBrace next h e = absurd cc
 from_comma g around b spot a by_terminal.CloseBrace next h e = absurd cc
 from_comma g around b spot a by_terminal.Colon next h e = absurd cc
+from_comma g around b spot a by_terminal.And next h e = absurd cc
+from_comma g around b spot a by_terminal.Or next h e = absurd cc
+from_comma g around b spot a (by_terminal.Comparison m) next h e = absurd cc
 from_comma g around b spot a by_terminal.Other next h e = absurd cc
 
 second_entry_read : (g : Setting) (around : List Outer) (b : Before) (spot : Spot) (a c : Entry) (t : Terminal) (piece : Piece) (next : Reading) → IsLawfulAt g (at_second_entry around b spot a)
@@ -1023,6 +1059,9 @@ from_second_entry g around b spot a by_terminal.Question next h e = absurd cc
 from_second_entry g around b spot a by_terminal.OpenBrace next h e = absurd cc
 from_second_entry g around b spot a by_terminal.CloseBrace next h e = absurd cc
 from_second_entry g around b spot a by_terminal.Colon next h e = absurd cc
+from_second_entry g around b spot a by_terminal.And next h e = absurd cc
+from_second_entry g around b spot a by_terminal.Or next h e = absurd cc
+from_second_entry g around b spot a (by_terminal.Comparison m) next h e = absurd cc
 from_second_entry g around b spot a by_terminal.Other next h e = absurd cc
 
 close_at_delta : (g : Setting) (around : List Outer) (b : Before) (spot : Spot) (a c : Entry) (next : Reading) → IsLawfulAt g (at_delta_closing around b spot a c)
@@ -1072,6 +1111,9 @@ from_delta_closing g around b spot a c by_terminal.Question next h e = mark_at_d
 from_delta_closing g around b spot a c by_terminal.OpenBrace next h e = absurd cc
 from_delta_closing g around b spot a c by_terminal.CloseBrace next h e = absurd cc
 from_delta_closing g around b spot a c by_terminal.Colon next h e = absurd cc
+from_delta_closing g around b spot a c by_terminal.And next h e = absurd cc
+from_delta_closing g around b spot a c by_terminal.Or next h e = absurd cc
+from_delta_closing g around b spot a c (by_terminal.Comparison m) next h e = absurd cc
 from_delta_closing g around b spot a c by_terminal.Other next h e = absurd cc
 
 -- ---- all places
@@ -1114,6 +1156,9 @@ from_power_mark g around b base n by_terminal.Question next h e = mark_read g (p
 from_power_mark g around b base n by_terminal.OpenBrace next h e = absurd cc
 from_power_mark g around b base n by_terminal.CloseBrace next h e = absurd cc
 from_power_mark g around b base n by_terminal.Colon next h e = absurd cc
+from_power_mark g around b base n by_terminal.And next h e = absurd cc
+from_power_mark g around b base n by_terminal.Or next h e = absurd cc
+from_power_mark g around b base n (by_terminal.Comparison m) next h e = absurd cc
 from_power_mark g around b base n by_terminal.Other next h e = absurd cc
 
 -- what may follow a wildcard without a restriction
@@ -1176,6 +1221,9 @@ from_restriction g site n by_terminal.Question next h e = follower_read g site n
 from_restriction g site n by_terminal.OpenBrace next h e = brace_read g site n next h e
 from_restriction g site n by_terminal.CloseBrace next h e = follower_read g site n by_terminal.CloseBrace next h tt e
 from_restriction g site n by_terminal.Colon next h e = follower_read g site n by_terminal.Colon next h tt e
+from_restriction g site n by_terminal.And next h e = follower_read g site n by_terminal.And next h tt e
+from_restriction g site n by_terminal.Or next h e = follower_read g site n by_terminal.Or next h tt e
+from_restriction g site n (by_terminal.Comparison m) next h e = follower_read g site n (by_terminal.Comparison m) next h tt e
 from_restriction g site n by_terminal.Other next h e = follower_read g site n by_terminal.Other next h tt e
 
 -- ---- in braces
@@ -1221,6 +1269,9 @@ from_element g site n r by_terminal.Question next h e = absurd cc
 from_element g site n r by_terminal.OpenBrace next h e = absurd cc
 from_element g site n r by_terminal.CloseBrace next h e = absurd cc
 from_element g site n r by_terminal.Colon next h e = absurd cc
+from_element g site n r by_terminal.And next h e = absurd cc
+from_element g site n r by_terminal.Or next h e = absurd cc
+from_element g site n r (by_terminal.Comparison m) next h e = absurd cc
 from_element g site n r by_terminal.Other next h e = absurd cc
 
 from_element_number : (g : Setting) (site : Site) (n : Spelled) (r : Restriction) (sign : Sign) (t : Terminal) (next : Reading) → IsLawfulStand g (element_number site n r sign)
@@ -1242,6 +1293,9 @@ from_element_number g site n r sign by_terminal.Question next h e = absurd cc
 from_element_number g site n r sign by_terminal.OpenBrace next h e = absurd cc
 from_element_number g site n r sign by_terminal.CloseBrace next h e = absurd cc
 from_element_number g site n r sign by_terminal.Colon next h e = absurd cc
+from_element_number g site n r sign by_terminal.And next h e = absurd cc
+from_element_number g site n r sign by_terminal.Or next h e = absurd cc
+from_element_number g site n r sign (by_terminal.Comparison m) next h e = absurd cc
 from_element_number g site n r sign by_terminal.Other next h e = absurd cc
 
 -- a comma, or the end
@@ -1278,6 +1332,9 @@ from_element_end g site n r by_terminal.Question next h e = absurd cc
 from_element_end g site n r by_terminal.OpenBrace next h e = absurd cc
 from_element_end g site n r by_terminal.CloseBrace next h e = record { there = plain (behind site (wildcard n r)); lawful = lawful_behind g site n r h.0 (some_elements r h.1); kept = sym (same_Some _ next e) ∙ expects_behind site n r; written = closed_elements site n r h.1 ∙ written_marked site n r }
 from_element_end g site n r by_terminal.Colon next h e = absurd cc
+from_element_end g site n r by_terminal.And next h e = absurd cc
+from_element_end g site n r by_terminal.Or next h e = absurd cc
+from_element_end g site n r (by_terminal.Comparison m) next h e = absurd cc
 from_element_end g site n r by_terminal.Other next h e = absurd cc
 
 -- ---- wherever reading stands

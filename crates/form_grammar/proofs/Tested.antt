@@ -1,19 +1,24 @@
 -- What reading patterns and their right sides answers.
-use Rattle.std.proofs.Common.{◌≡◌, ◌⊎◌, inl, inr, List, Bool, true, false, cond, Option, Some, None, option_and_then, Result, Ok, Err, refl, sym, ap, ◌∙◌}
-use Rattle.std.specs.Prelude.{IfOk, IfErr}
+use Rattle.std.proofs.Common.{◌≡◌, ◌≤◌, ◌⊎◌, inl, inr, ℕ, List, [], Bool, true, false, cond, Option, Some, None, option_and_then, Result, Ok, Err, refl, sym, ap, ◌∙◌, arith}
+use Rattle.std.specs.Prelude.{IfOk, IfErr, ◌↔◌, is_some}
 use Rattle.std.specs.List.{list_all}
+use Rattle.std.proofs.lemmas.List.{append-nil}
 use Rattle.std.proofs.lemmas.Option.{same_Some, none-some}
 use Rattle.std.proofs.lemmas.List.Sums.{AllPass-from_list_all, list_all-from_AllPass}
 use Rattle.form_ast.specs.declared.expr.Piece.{Piece}
 use Rattle.form_ast.specs.declared.setting.Setting.TheVariants.{Right, Pattern}
 use Rattle.form_ast.specs.Patterns.{is_known_piece}
+use Rattle.form_ast.specs.Syntax.{pieces_of_sum}
 use Rattle.form_grammar.specs.declared.error.ReadError.{ReadError}
 use Rattle.form_grammar.specs.declared.error.ReadError.TheVariants.{BadSyntax, Memory}
 use Rattle.form_grammar.specs.declared.terminal.Terminal.{Terminal}
-use Rattle.form_grammar.specs.Grammar.{IsPatternText, IsRightText}
+use Rattle.form_grammar.specs.Depth.{opened_by}
+use Rattle.form_grammar.specs.Grammar.{IsPatternText, IsPatternTextWithin, IsRightText}
 use Rattle.form_grammar.specs.Reading.{Gives, Excludes, begun, run}
 use Rattle.form_grammar.specs.Shape as shape
-use Rattle.form_grammar.specs.Texts.{where_so, run_right, run_pattern}
+use Rattle.form_grammar.specs.Texts.{where_so, run_right, run_pattern, fit_within, run_pattern_within}
+use Rattle.form_ast.proofs.Lower.{lower_sum}
+use Rattle.form_grammar.proofs.Deep.{passes_sum, fits_sum}
 use Rattle.form_grammar.proofs.Read.{read_text}
 use Rattle.form_grammar.proofs.Shaped.{judged_right}
 use Rattle.form_grammar.proofs.Sound.{sound}
@@ -63,6 +68,46 @@ pattern_or_none terminals = by_run (run_pattern terminals) refl where
   by_run : (o : Option (List Piece)) → run_pattern terminals ≡ o → ((pieces : List Piece) × IsPatternText terminals pieces) ⊎ ((pieces : List Piece) → IsPatternText terminals pieces → ⊥)
   by_run (Some pieces) e = inl (pieces, pattern_sound terminals pieces e)
   by_run None e = inr (λ pieces h. none-some pieces (sym e ∙ pattern_complete terminals pieces h))
+
+-- ---- patterns where parentheses are open
+
+is_there : {X : Type 0} (o : Option X) → is_some o ≡ true → (x : X) × (o ≡ Some x)
+is_there None e = absurd cc
+is_there (Some x) e = (x, refl)
+
+within_sound : (opened : ℕ) (terminals : List Terminal) (pieces : List Piece) → run_pattern_within opened terminals ≡ Some pieces → IsPatternTextWithin opened terminals pieces
+unfolding run_pattern_within
+within_sound opened terminals pieces e =
+    let p = passed (fit_within opened) (run_pattern terminals) pieces e in
+    let h = pattern_sound terminals pieces p.0 in
+    let there = is_there (opened_by opened pieces) p.1 in
+    let all = fits_sum h.tree Pattern 0 opened there.0 [] h.lawful (ap (opened_by opened) (append-nil (pieces_of_sum h.tree) ∙ sym h.kept) ∙ there.1) in
+    record { tree = h.tree; lawful = all.0; pattern = h.pattern; written = h.written; kept = h.kept }
+
+open_at_end : (opened : ℕ) → opened_by opened [] ≡ Some opened
+unfolding opened_by
+open_at_end opened = refl
+
+within_complete : (opened : ℕ) (terminals : List Terminal) (pieces : List Piece) → IsPatternTextWithin opened terminals pieces → run_pattern_within opened terminals ≡ Some pieces
+unfolding run_pattern_within
+within_complete opened terminals pieces h =
+    let lowest : 0 ≤ opened = omega arith in
+    passes (fit_within opened) (run_pattern terminals) pieces
+    (pattern_complete terminals pieces (record { tree = h.tree; lawful = lower_sum h.tree Pattern 0 opened lowest h.lawful; pattern = h.pattern; written = h.written; kept = h.kept }))
+    (ap (λ (o : Option ℕ). is_some o) (ap (opened_by opened) (h.kept ∙ sym (append-nil (pieces_of_sum h.tree))) ∙ passes_sum h.tree Pattern opened h.lawful [] ∙ open_at_end opened))
+
+pub within_found : (opened : ℕ) (r : Result (List Piece) ReadError) (terminals : List Terminal) → Gives (λ pieces. pieces) r (run_pattern_within opened terminals) → IfOk r (λ pieces. IsPatternTextWithin opened terminals pieces)
+within_found opened (Ok pieces) terminals e = within_sound opened terminals pieces e
+within_found opened (Err error) terminals e = tt
+
+pub within_none : (opened : ℕ) (r : Result (List Piece) ReadError) (terminals : List Terminal) → Gives (λ pieces. pieces) r (run_pattern_within opened terminals) → IfErr r (λ error. Excludes error (IsPatternTextWithin opened terminals))
+within_none opened (Ok pieces) terminals e = tt
+within_none opened (Err Memory) terminals e = tt
+within_none opened (Err BadSyntax) terminals e = λ pieces h. none-some pieces (sym e ∙ within_complete opened terminals pieces h)
+
+-- such a pattern is what is read
+pub within_exactly : (opened : ℕ) (terminals : List Terminal) (pieces : List Piece) → IsPatternTextWithin opened terminals pieces ↔ (run_pattern_within opened terminals ≡ Some pieces)
+within_exactly opened terminals pieces = (within_complete opened terminals pieces, within_sound opened terminals pieces)
 
 -- ---- right sides
 

@@ -1,5 +1,5 @@
 -- The grammar of right sides and patterns: how each tree is written.
-use Rattle.std.specs.Prelude.{◌≡◌, List, [], ◌∷◌, ◌++◌, Option, Some, None, if◌then◌else◌, IsTrue, All}
+use Rattle.std.specs.Prelude.{◌≡◌, ℕ, List, [], ◌∷◌, ◌++◌, Option, Some, None, if◌then◌else◌, IsTrue, All}
 use Rattle.form_ast.specs.declared.expr.Sign as signs
 use Rattle.form_ast.specs.declared.expr.Power as powers
 use Rattle.form_ast.specs.declared.expr.Named.{Named}
@@ -133,6 +133,14 @@ pub record IsExpr (terminals : List Terminal) (pieces : List Piece) : Type 0 whe
 pub record IsPatternText (terminals : List Terminal) (pieces : List Piece) : Type 0 where
   pub tree : Sum
   pub lawful : IsLawfulSum Pattern 0 tree
+  pub pattern : IsTrue (is_pattern tree)
+  pub written : terminals ≡ written_sum tree
+  pub kept : pieces ≡ pieces_of_sum tree
+
+-- The terminals are a pattern with these pieces that stands where so many parentheses are open.
+pub record IsPatternTextWithin (opened : ℕ) (terminals : List Terminal) (pieces : List Piece) : Type 0 where
+  pub tree : Sum
+  pub lawful : IsLawfulSum Pattern opened tree
   pub pattern : IsTrue (is_pattern tree)
   pub written : terminals ≡ written_sum tree
   pub kept : pieces ≡ pieces_of_sum tree

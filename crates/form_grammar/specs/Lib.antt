@@ -1,4 +1,5 @@
 pub mod Balance
+pub mod Depth
 pub mod Effect
 pub mod Grammar
 pub mod Parts

@@ -8,9 +8,10 @@ use Rattle.form_lexer.specs.declared.mark.BuiltIn.TheVariants as built_in
 use Rattle.form_lexer.specs.declared.token.Token.{Token}
 use Rattle.form_lexer.specs.declared.token.TokenKind.{TokenKind}
 use Rattle.form_lexer.specs.declared.token.TokenKind.TheVariants as kind
+use Rattle.form_base.specs.declared.comparison.Comparison.TheVariants.{EqualTo, NotEqualTo, Less, Greater, AtMost, AtLeast}
 use Rattle.form_base.specs.declared.spot.Spot.{Spot}
 use Rattle.form_grammar.specs.declared.terminal.Terminal.{Terminal}
-use Rattle.form_grammar.specs.declared.terminal.Terminal.TheVariants.{Number, Name, Imaginary, Delta, Sign, Times, Over, Raise, Open, Close, Comma, Period, Equals, Question, OpenBrace, CloseBrace, Colon, Other}
+use Rattle.form_grammar.specs.declared.terminal.Terminal.TheVariants.{Number, Name, Imaginary, Delta, Sign, Times, Over, Raise, Open, Close, Comma, Period, Equals, Question, OpenBrace, CloseBrace, Colon, And, Or, Comparison, Other}
 
 -- a mark as the grammar sees it
 abbrev pub mark_terminal : marks.Mark → Terminal
@@ -28,7 +29,15 @@ mark_terminal mark.Question = Question
 mark_terminal mark.OpenBrace = OpenBrace
 mark_terminal mark.CloseBrace = CloseBrace
 mark_terminal mark.Colon = Colon
-mark_terminal _ = Other
+mark_terminal mark.And = And
+mark_terminal mark.Or = Or
+mark_terminal mark.EqualTo = Comparison EqualTo
+mark_terminal mark.NotEqualTo = Comparison NotEqualTo
+mark_terminal mark.Less = Comparison Less
+mark_terminal mark.Greater = Comparison Greater
+mark_terminal mark.AtMost = Comparison AtMost
+mark_terminal mark.AtLeast = Comparison AtLeast
+mark_terminal mark.Semicolon = Other
 
 -- a name of the language: `g_` stands nowhere yet
 abbrev pub built_in_terminal : built_ins.BuiltIn → Spot → Terminal

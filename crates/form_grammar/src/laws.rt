@@ -1,11 +1,12 @@
 //! Laws of the definitions, each the contract of a function that does nothing.
 
-ghost use Rattle.std.specs.Prelude.{◌≡◌, ◌⊎◌, List};
+ghost use Rattle.std.specs.Prelude.{◌≡◌, ℕ, ◌⊎◌, ◌↔◌, List, Some};
 ghost use Rattle.form_ast.specs.declared.expr.Piece.{Piece};
 ghost use Rattle.form_ast.specs.Syntax.{Sum};
 ghost use Rattle.form_ast.specs.Lawful.{IsLawful};
 ghost use Rattle.form_grammar.specs.declared.terminal.Terminal.{Terminal};
-ghost use Rattle.form_grammar.specs.Grammar.{IsExpr, IsPatternText, IsRightText, written_sum};
+ghost use Rattle.form_grammar.specs.Grammar.{IsExpr, IsPatternText, IsPatternTextWithin, IsRightText, written_sum};
+ghost use Rattle.form_grammar.specs.Texts.{run_pattern_within};
 
 /// Terminals are one right side, with one tree, or none; so too one pattern, and one right side of a pattern.
 pub fn one_tree()
@@ -27,3 +28,9 @@ pub fn one_tree()
 {
     form_ast::laws::one_tree();
 }
+
+/// A pattern that stands where so many parentheses are open is what reading goes on to.
+pub fn pattern_is_read()
+    ensures { (opened : ℕ) (terminals : List Terminal) (pieces : List Piece) →
+        IsPatternTextWithin opened terminals pieces ↔ (run_pattern_within opened terminals ≡ Some pieces) }
+{}

@@ -3,6 +3,7 @@
 
 mod balance;
 mod brackets;
+mod depth;
 mod effect;
 mod error;
 mod known;
@@ -17,4 +18,4 @@ mod weights;
 pub use error::ReadError;
 pub use right_side::RightSide;
 pub use terminal::Terminal;
-pub use texts::{read_expr, read_pattern, read_right};
+pub use texts::{read_expr, read_pattern, read_pattern_within, read_right};

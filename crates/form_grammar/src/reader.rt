@@ -31,7 +31,7 @@ use std::mem::replace;
 use std::vec::IntoIter;
 
 /// So many parentheses may be open at a place, those of a power and of arguments with them.
-const MOST_OPEN: usize = 64;
+pub const MOST_OPEN: usize = 64;
 
 /// So many pieces a part has at least, but the last.
 const LEAST_PIECES: usize = 960;

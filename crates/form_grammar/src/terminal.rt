@@ -2,7 +2,7 @@ ghost use Rattle.std.specs.Prelude.{◌≡◌};
 ghost use Rattle.form_grammar.specs.Terminal.{mark_terminal as mark_terminal_of};
 
 use form_ast::{Sign, Spelled};
-use form_base::Spot;
+use form_base::{Comparison, Spot};
 use form_lexer::{BuiltIn, Mark, Token, TokenKind};
 use form_number::Number;
 
@@ -30,6 +30,12 @@ pub enum Terminal {
     OpenBrace,
     CloseBrace,
     Colon,
+    /// `&&`, in conditions alone.
+    And,
+    /// `||`, in conditions alone.
+    Or,
+    /// A mark that compares other than `=`, in conditions alone.
+    Comparison(Comparison),
     /// A token that stands nowhere in the grammar.
     Other,
 }
@@ -53,7 +59,15 @@ pub fn mark_terminal(mark: Mark) -> Terminal
         Mark::OpenBrace => Terminal::OpenBrace,
         Mark::CloseBrace => Terminal::CloseBrace,
         Mark::Colon => Terminal::Colon,
-        _ => Terminal::Other,
+        Mark::And => Terminal::And,
+        Mark::Or => Terminal::Or,
+        Mark::EqualTo => Terminal::Comparison(Comparison::EqualTo),
+        Mark::NotEqualTo => Terminal::Comparison(Comparison::NotEqualTo),
+        Mark::Less => Terminal::Comparison(Comparison::Less),
+        Mark::Greater => Terminal::Comparison(Comparison::Greater),
+        Mark::AtMost => Terminal::Comparison(Comparison::AtMost),
+        Mark::AtLeast => Terminal::Comparison(Comparison::AtLeast),
+        Mark::Semicolon => Terminal::Other,
     }
 }
 

@@ -1,12 +1,13 @@
 //! Right sides and patterns that are read from tokens that are there.
 ghost use Rattle.std.specs.Prelude.{map, IfErr, IfOk};
 ghost use Rattle.std.specs.Vec.Iter.{into_iter_items};
-ghost use Rattle.form_grammar.specs.Grammar.{IsExpr, IsPatternText, IsRightText};
+ghost use Rattle.form_grammar.specs.Grammar.{IsExpr, IsPatternText, IsPatternTextWithin, IsRightText};
 ghost use Rattle.form_grammar.specs.Reading.{Excludes, Gives};
 ghost use Rattle.form_grammar.specs.Terminal.{terminal_of};
-ghost use Rattle.form_grammar.specs.Texts.{run_pattern as run_pattern_from, run_right as run_right_from};
+ghost use Rattle.form_grammar.specs.Texts.{run_pattern as run_pattern_from, run_pattern_within as run_pattern_from_within, run_right as run_right_from};
 
 use crate::ReadError;
+use crate::depth::opened_behind_all;
 use crate::known::are_known;
 use crate::reader::run;
 use crate::shape::judge;
@@ -40,6 +41,34 @@ pub fn read_pattern(alloc: Global, tokens: IntoIter<Token>) -> Result<Expr, Read
     ensures none { IfErr result (λ error. Excludes error (IsPatternText (map terminal_of (into_iter_items tokens)))) }
 {
     run_pattern(alloc, tokens)
+}
+
+/// The pattern that the tokens are where so many parentheses are open, as reading goes on to it.
+#[tactic(auto, unfolding(crate::specs::Texts::run_pattern_within))]
+fn run_pattern_within(
+    alloc: Global,
+    opened: usize,
+    tokens: IntoIter<Token>,
+) -> Result<Expr, ReadError>
+    ensures { Gives (λ expr. expr) result (run_pattern_from_within opened (map terminal_of (into_iter_items tokens))) }
+{
+    let pattern = run_pattern(alloc, tokens)?;
+    if opened_behind_all(opened, pattern.as_slice()).is_none() {
+        return Err(ReadError::BadSyntax);
+    }
+    Ok(pattern)
+}
+
+/// The pattern that the tokens are where so many parentheses are open: no more than 64 are open anywhere, these counted.
+pub fn read_pattern_within(
+    alloc: Global,
+    opened: usize,
+    tokens: IntoIter<Token>,
+) -> Result<Expr, ReadError>
+    ensures found { IfOk result (λ expr. IsPatternTextWithin opened (map terminal_of (into_iter_items tokens)) expr) }
+    ensures none { IfErr result (λ error. Excludes error (IsPatternTextWithin opened (map terminal_of (into_iter_items tokens)))) }
+{
+    run_pattern_within(alloc, opened, tokens)
 }
 
 /// The right side that the tokens are, as reading goes on to it, with this pattern.

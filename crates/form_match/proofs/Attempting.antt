@@ -2,7 +2,7 @@
 use Rattle.std.proofs.Common.{◌≡◌, ◌≢◌, ℕ, zero, suc, ◌+◌, ◌-◌, ◌<◌, ◌≤◌, Bool, true, false, not, if◌then◌else◌, List, [], ◌∷◌, ◌++◌, length, map, take, drop, Option, Some, None, option_map, option_and_then, option_to_list, refl, sym, ap, subst, ◌∙◌, arith, get_or, length-take}
 use Rattle.std.specs.Prelude.{Result, Ok, Err, IfOk, slice_get}
 use Rattle.std.specs.List.{list_any, filter_map, cons_option}
-use Rattle.std.proofs.lemmas.List.{drop-drop, drop_all}
+use Rattle.std.proofs.lemmas.List.{drop-drop, drop_all, length-append}
 use Rattle.std.proofs.Math.Seq.{drop-append_seam}
 use Rattle.form_term.specs.declared.piece.Piece.{Piece}
 use Rattle.form_term.specs.Term as terms
@@ -314,17 +314,10 @@ module _ (table : List (Option (List Piece))) (steps : List Step) (outermost : H
               omega arith,
             )
 
-  pub functions_spent : (n : Name) (c : ℕ) → slice_get host.term.others.functions c ≡ None → from table (pieces.Function n) os old c ≡ []
-  functions_spent n c none =
-      same (pieces.Function n) c ∙ candidate_last (function_trial n host used outside old) (length host.term.others.functions) c (not_got host.term.others.functions c none)
-
   -- ---- stretches of the word
 
   stretch_first : (n c : ℕ) → c < suc (length host.term.others.word) - n → all_from (pieces.Word n) c ≡ cons_option (stretch_trial n host used outside old c) (all_from (pieces.Word n) (c + 1))
   stretch_first n c some = candidate_first (stretch_trial n host used outside old) (suc (length host.term.others.word) - n) c some
-
-  pub stretches_spent : (n c : ℕ) → suc (length host.term.others.word) - n ≤ c → from table (pieces.Word n) os old c ≡ []
-  stretches_spent n c none = same (pieces.Word n) c ∙ candidate_last (stretch_trial n host used outside old) (suc (length host.term.others.word) - n) c none
 
   stretch_refused : (n c : ℕ) → c < suc (length host.term.others.word) - n → stretch_trial n host used outside old c ≡ None → IsAttempt (attempts.Failed (c + 1)) table (pieces.Word n) steps outermost os c old new
   stretch_refused n c some none = (both_same (pieces.Word n) c (c + 1) (stretch_first n c some ∙ ap (λ (o : Option State). cons_option o (all_from (pieces.Word n) (c + 1))) none), omega arith)
@@ -367,10 +360,6 @@ module _ (table : List (Option (List Piece))) (steps : List Step) (outermost : H
   product_same : from table pieces.EndOfProduct os old 0 ≡ moves table pieces.EndOfProduct (factors host used ∷ outside) old
   product_same = same pieces.EndOfProduct 0
 
-  pub product_spent : (c : ℕ) → c ≢ 0 → from table pieces.EndOfProduct os old c ≡ []
-  product_spent zero some = absurd (some refl)
-  product_spent (suc c) some = refl
-
   -- nothing is around the factors of the term itself
   pub no_product : at ≡ 0 → IsAttempt (attempts.Failed 1) table pieces.EndOfProduct steps outermost os 0 old new
   no_product zero_at =
@@ -390,9 +379,6 @@ module _ (table : List (Option (List Piece))) (steps : List Step) (outermost : H
 
     product_around : from table pieces.EndOfProduct os old 0 ≡ moves table pieces.EndOfProduct (factors host used ∷ open_of steps outermost f ∷ outer_open.rest) old
     product_around = product_same ∙ ap (λ (l : List Open). moves table pieces.EndOfProduct (factors host used ∷ l) old) outer_open.is
-
-    pub product_misplaced : (moves table pieces.EndOfProduct (factors host used ∷ open_of steps outermost f ∷ outer_open.rest) old ≡ []) → IsAttempt (attempts.Failed 1) table pieces.EndOfProduct steps outermost os 0 old new
-    product_misplaced none = (product_around ∙ none, omega arith)
 
   module _ (around : ℕ) (where_around : around ≡ around_at steps (length steps)) (span : Span) (framed_around : frame_at steps around ≡ frames.Arguments span) (inner_at : at ≢ 0) where
     abbrev outer : Shown steps outermost (at - 1) around (frames.Arguments span) outside
@@ -505,9 +491,6 @@ module _ (table : List (Option (List Piece))) (steps : List Step) (outermost : H
         subst (λ (a : ℕ). frame_at steps a ≡ f → Shown steps outermost at a f word_open.rest) (sym where_around)
         (λ is. shown steps outermost at (around_at steps (length steps)) f word_open.rest is word_open.around) framed_around
 
-    pub word_misplaced : (moves table pieces.EndOfWord (calls word_left_over ∷ open_of steps outermost f ∷ around_word.rest) old ≡ []) → IsAttempt (attempts.Failed 1) table pieces.EndOfWord steps outermost os 0 old new
-    word_misplaced none = (word_same pieces.EndOfWord 0 ∙ ap (λ (l : List Open). moves table pieces.EndOfWord (calls word_left_over ∷ l) old) around_word.is ∙ none, omega arith)
-
   pub word_ends : (around after outer_at : ℕ) → around ≡ around_at steps (length steps) → frame_at steps around ≡ frames.Factors outer_at → after ≡ around_at steps around → old ≡ new
       → IsAttempt (attempts.Made 1 (moved (frames.Factors outer_at) after)) table pieces.EndOfWord steps outermost os 0 old new
   word_ends around after outer_at where_around framed_around where_after unchanged =
@@ -617,9 +600,6 @@ module _ (table : List (Option (List Piece))) (steps : List Step) (outermost : H
     ends_with f framed_around =
         as_read pieces.EndOfArguments 0 [] (ap arguments_of empty ∙ no_arguments) ∙ ap (λ (l : List Open). behind_arguments [] l old) (around_arguments f framed_around).is
 
-    pub arguments_misplaced : (other : Span) → frame_at steps around ≡ frames.Arguments other → IsAttempt (attempts.Failed 1) table pieces.EndOfArguments steps outermost os 0 old new
-    arguments_misplaced other framed_around = (ends_with (frames.Arguments other) framed_around, omega arith)
-
     pub arguments_end : (outer_at after : ℕ) → frame_at steps around ≡ frames.Factors outer_at → after ≡ around_at steps around → old ≡ new
         → IsAttempt (attempts.Made 1 (moved (frames.Factors outer_at) after)) table pieces.EndOfArguments steps outermost os 0 old new
     arguments_end outer_at after framed_around where_after unchanged =
@@ -632,17 +612,19 @@ module _ (table : List (Option (List Piece))) (steps : List Step) (outermost : H
           omega arith,
         )
 
-    pub arguments_end_in_word : (outer_at place after : ℕ) → frame_at steps around ≡ frames.Calls outer_at place → after ≡ around_at steps around → old ≡ new
-        → IsAttempt (attempts.Made 1 (moved (frames.Calls outer_at (place + 1)) after)) table pieces.EndOfArguments steps outermost os 0 old new
-    arguments_end_in_word outer_at place after framed_around where_after unchanged =
+    -- any place serves behind which as much of the word is left
+    pub arguments_end_in_word : (outer_at place next after : ℕ) → drop next (host_at steps outermost outer_at).term.others.word ≡ drop (place + 1) (host_at steps outermost outer_at).term.others.word
+        → frame_at steps around ≡ frames.Calls outer_at place → after ≡ around_at steps around → old ≡ new
+        → IsAttempt (attempts.Made 1 (moved (frames.Calls outer_at next) after)) table pieces.EndOfArguments steps outermost os 0 old new
+    arguments_end_in_word outer_at place next after same framed_around where_after unchanged =
         let f = frames.Calls outer_at place in
-        let s = step_of 1 (moved (frames.Calls outer_at (place + 1)) after) (length new) in
+        let s = step_of 1 (moved (frames.Calls outer_at next) after) (length new) in
         let outer = around_arguments f framed_around in
         let word = (host_at steps outermost outer_at).term.others.word in
-        let opens = calls (drop (place + 1) word) ∷ outer.rest in (
+        let opens = calls (drop next word) ∷ outer.rest in (
           opens,
-          (calls_on steps s outermost refl span.host around beyond arguments_open.host outer_at place (place + 1) outer refl where_after, nothing_taken steps s refl stands.1),
-          ends_with f framed_around ∙ ap (λ (cs : List Call). state (calls cs ∷ outer.rest) old ∷ []) (drop-drop 1 place word) ∙ ap (λ (bs : List Binding). state opens bs ∷ []) unchanged,
+          (calls_on steps s outermost refl span.host around beyond arguments_open.host outer_at place next outer refl where_after, nothing_taken steps s refl stands.1),
+          ends_with f framed_around ∙ ap (λ (cs : List Call). state (calls cs ∷ outer.rest) old ∷ []) (drop-drop 1 place word ∙ sym same) ∙ ap (λ (bs : List Binding). state opens bs ∷ []) unchanged,
           omega arith,
         )
 
@@ -829,6 +811,10 @@ lawful_around steps outermost at os framed stands around where_around span frame
 -- a first argument among pieces that are known
 pub first_there : {ps qs front behind : List Piece} → ps ≡ qs → HasFirst ps front behind → HasFirst qs front behind
 first_there {ps} {qs} {front} {behind} is first = subst (λ (l : List Piece). HasFirst l front behind) is first
+
+-- it is no longer than they are
+pub first_within : {ps front behind : List Piece} → HasFirst ps front behind → length front ≤ length ps
+first_within {ps} {front} {behind} first = omega (arith, ap length first.parts, length-append front behind)
 
 -- ---- the kinds of argument
 

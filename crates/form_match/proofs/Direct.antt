@@ -46,12 +46,12 @@ first_in_both [] rest = refl
 first_in_both (s ∷ ss) rest = refl
 
 -- the first of what one thing leads to, and then of what the others do
-first_of_option : {A : Type 0} (g : A → List State) (o : Option A) (xs : List A) → first_found (flat_map g (cons_option o xs)) ≡ option_or (first_found (flat_map g (option_to_list o))) (first_found (flat_map g xs))
+pub first_of_option : {A : Type 0} (g : A → List State) (o : Option A) (xs : List A) → first_found (flat_map g (cons_option o xs)) ≡ option_or (first_found (flat_map g (option_to_list o))) (first_found (flat_map g xs))
 first_of_option g None xs = refl
 first_of_option g (Some x) xs =
     first_in_both (g x) (flat_map g xs) ∙ ap (λ (l : List State). option_or (first_found l) (first_found (flat_map g xs))) (sym (append-nil (g x)))
 
-first_of_one : (g : State → List State) (s : State) → first_found (flat_map g (s ∷ [])) ≡ first_found (g s)
+pub first_of_one : (g : State → List State) (s : State) → first_found (flat_map g (s ∷ [])) ≡ first_found (g s)
 first_of_one g s = ap first_found (append-nil (g s))
 
 alone : {A : Type 0} (o : Option A) → cons_option o [] ≡ option_to_list o

@@ -3,12 +3,16 @@ pub mod Attempting
 pub mod Backwards
 pub mod Cutting
 pub mod Direct
+pub mod Ending
 pub mod Exponents
 pub mod Firsts
 pub mod Found
 pub mod Heads
 pub mod Held
+pub mod InWords
 pub mod Lawful
+pub mod Lengths
+pub mod Named
 pub mod Numbered
 pub mod Plainly
 pub mod Plains
@@ -18,6 +22,7 @@ pub mod Pushed
 pub mod Reaching
 pub mod Remaining
 pub mod Running
+pub mod Shortened
 pub mod Somewhere
 pub mod Standing
 pub mod Staying

@@ -1,5 +1,5 @@
 -- What is left of a term, element by element, and that it is a term.
-use Rattle.std.proofs.Common.{◌≡◌, inl, inr, ℕ, zero, suc, ◌+◌, ◌<◌, ◌≤◌, ◌==◌, max, Bool, true, false, not, cond, ℤ, pos, ◌-ℤ◌, List, [], ◌∷◌, ◌++◌, Option, Some, None, IfSome, length, map, take, drop, get_or, refl, sym, ap, subst, ◌∙◌, append_assoc, append-nil, arith, eqb-true, eq-eqb}
+use Rattle.std.proofs.Common.{◌≡◌, inl, inr, ℕ, zero, suc, ◌+◌, ◌<◌, ◌≤◌, ◌==◌, max, Bool, true, false, not, cond, ℤ, pos, ◌-ℤ◌, List, [], ◌∷◌, ◌++◌, Option, Some, None, IfSome, length, map, take, drop, get_or, refl, sym, ap, subst, ◌∙◌, append_assoc, arith, eqb-true, eq-eqb}
 use Rattle.std.proofs.lemmas.Int.{ints}
 use Rattle.std.specs.Prelude.{All, nat_abs, nat_lt, filter, slice_get}
 use Rattle.std.specs.List.{list_any, enumerate_from, sum_by, AllByRecursion}
@@ -10,7 +10,7 @@ use Rattle.std.specs.declared.cmp.Ordering.TheVariants.{Less}
 use Rattle.std.specs.Option.{unwrap_or}
 use Rattle.std.proofs.lemmas.Bool.{ltb-true, ne_eqb}
 use Rattle.std.proofs.lemmas.Option.{slice_get-get_or}
-use Rattle.std.proofs.lemmas.List.{drop_more, drop_all, length-append, length-drop, length-take, nil_from_length}
+use Rattle.std.proofs.lemmas.List.{drop_more, length-append, length-drop, length-take, nil_from_length}
 use Rattle.std.proofs.lemmas.List.Sums.{sum_by-cons, sum-map}
 use Rattle.std.proofs.lemmas.List.Elements.{All-append, All-take, All-drop, All-head, All-tail, All-weaker, filter_passes, All-from_recursion, recursion_from_All}
 use Rattle.form_term.specs.declared.power.Power.{Power}
@@ -27,7 +27,7 @@ use Rattle.form_match.specs.Fits.{Fits, FitsExponent, FitsUse}
 use Rattle.form_match.specs.Left.{left_of, taken, symbol_taken, dot_taken, takes_component, takes_delta, takes_function, untaken, powers_left, dots_left, word_left, without_stretch}
 use Rattle.form_match.specs.Matching.{fits}
 use Rattle.form_match.specs.Taken.{FitsDots, FitsSymbols, IsOfFunctions, first_part, rest_left, symbol_part, dot_part, present_dot, present_power, unless}
-use Rattle.form_match.proofs.Backwards.{at_back, exchanged, one_back, seen, standing}
+use Rattle.form_match.proofs.Backwards.{exchanged, one_back, seen, standing}
 use Rattle.form_match.proofs.Portions.{apart_is, symbol_first, dot_first}
 
 -- ---- element by element
@@ -99,20 +99,7 @@ module _ {A : Type 0} (takes : ℕ → Use → Bool) (us : List Use) where
       by true rest = refl
       by false rest = refl
 
-  pub untaken_step : (xs left : List A) (n i : ℕ) (x : A) (b : Bool) → n ≡ i → i < length xs → x ≡ get_or xs i x → b ≡ list_any (takes n) us
-      → left ++ untaken_from n takes us (drop i xs) ≡ untaken takes us xs
-      → (left ++ unless b x) ++ untaken_from (n + 1) takes us (drop (i + 1) xs) ≡ untaken takes us xs
-  untaken_step xs left n i x b at within is test before =
-      put_step left (unless b x) (untaken_from (n + 1) takes us (drop (i + 1) xs)) (untaken_from n takes us (drop i xs)) (untaken takes us xs) before
-      (ap (λ (t : Bool). unless t x ++ untaken_from (n + 1) takes us (drop (i + 1) xs)) test
-      ∙ sym (untaken_more n x (drop (i + 1) xs))
-      ∙ ap (untaken_from n takes us) (ap (λ (q : A). q ∷ drop (i + 1) xs) is ∙ sym (drop_more xs i x within)))
-
   -- they are gone through from the last one, and those that are taken go
-  pub untaken_begin : (xs : List A) (m : ℕ) → m ≡ length xs → xs ≡ take m xs ++ untaken_from m takes us (drop m xs)
-  untaken_begin xs m all =
-      at_back xs m all ∙ ap (λ (l : List A). take m xs ++ untaken_from m takes us l) (sym (drop_all m xs (omega (arith, all))))
-
   untaken_here : (xs : List A) (k : ℕ) (x : A) (b : Bool) → k < length xs → x ≡ get_or xs k x → b ≡ list_any (takes k) us
       → unless b x ++ untaken_from (k + 1) takes us (drop (k + 1) xs) ≡ untaken_from k takes us (drop k xs)
   untaken_here xs k x b within is test =
@@ -140,9 +127,6 @@ module _ {A : Type 0} (takes : ℕ → Use → Bool) (us : List Use) where
         ∙ ap (λ (y : A). take k xs ++ y ∷ rest) (sym there.1)
         ∙ ap (λ (l : List A). take k xs ++ there.0 ∷ l) rest_is
         ∙ ap (λ (l : List A). take k xs ++ l) (untaken_here xs k there.0 false within there.1 test)
-
-  pub untaken_end : (xs left : List A) (n i : ℕ) → length xs ≤ i → left ++ untaken_from n takes us (drop i xs) ≡ untaken takes us xs → left ≡ untaken takes us xs
-  untaken_end xs left n i past before = sym (append-nil left) ∙ ap (λ (l : List A). left ++ untaken_from n takes us l) (sym (drop_all i xs past)) ∙ before
 
   -- ---- what holds of all holds of those that stay
 

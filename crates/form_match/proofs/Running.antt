@@ -1,6 +1,6 @@
 -- The search as it runs: what its steps leave to be tried, and where it ends.
 use Rattle.std.proofs.Common.{◌≡◌, ℕ, zero, suc, ◌-◌, ◌≤◌, true, Bor, List, [], ◌∷◌, ◌++◌, length, take, drop, Option, Some, None, option_map, refl, sym, ap, subst, ◌∙◌, append_assoc, append-nil, arith, inl, inr, length-append, length-take}
-use Rattle.std.specs.Prelude.{◌<◌, IfSome, flat_map, slice_get}
+use Rattle.std.specs.Prelude.{◌<◌, ◌^◌, IfSome, flat_map, slice_get}
 use Rattle.std.proofs.lemmas.List.{same_from_push}
 use Rattle.std.proofs.lemmas.Option.{same_Some}
 use Rattle.form_term.specs.declared.piece.Piece.{Piece}
@@ -236,13 +236,13 @@ module _ (table : List (Option (List Piece))) (ps : List PatternPiece) (outermos
 
 -- ---- each turn comes later than the one before
 
-led_on : (steps : List Step) (s : Step) (c : ℕ) → c < s.next → IsLater (way (steps ++ s ∷ []) 0) (way steps c)
-led_on [] s c rises = inl rises
-led_on (t ∷ steps) s c rises = inr (refl, led_on steps s c rises)
+led_on : (steps : List Step) (s : Step) (c : ℕ) → c < s.next → s.next < 2 ^ 64 → IsLater (way (steps ++ s ∷ []) 0) (way steps c)
+led_on [] s c rises small = inl (rises, small)
+led_on (t ∷ steps) s c rises small = inr (refl, led_on steps s c rises small)
 
-led_past : (steps : List Step) (c next : ℕ) → c < next → IsLater (way steps next) (way steps c)
-led_past [] c next rises = inl rises
-led_past (t ∷ steps) c next rises = inr (refl, led_past steps c next rises)
+led_past : (steps : List Step) (c next : ℕ) → c < next → next < 2 ^ 64 → IsLater (way steps next) (way steps c)
+led_past [] c next rises small = inl (rises, small)
+led_past (t ∷ steps) c next rises small = inr (refl, led_past steps c next rises small)
 
 led_back : (steps : List Step) (s : Step) (c : ℕ) → IsLater (way steps s.next) (way (steps ++ s ∷ []) c)
 led_back [] s c = inr (refl, tt)
@@ -253,13 +253,13 @@ module _ (table : List (Option (List Piece))) (p : PatternPiece) (outermost : Ho
   became : (b : Attempt) → a ≡ b → IsAttempt b table p steps outermost at.0 c bs mid
   became b is = subst (λ (x : Attempt). IsAttempt x table p steps outermost at.0 c bs mid) is (tried at.0 at.1)
 
-  pub later_on : (next : ℕ) (m : Move) (made : List Step) → a ≡ attempts.Made next m → made ≡ mids ++ step_of next m (length mid) ∷ [] → IsLater (way made 0) (way steps c)
-  later_on next m made is e =
+  pub later_on : (next : ℕ) (m : Move) (made : List Step) → a ≡ attempts.Made next m → next < 2 ^ 64 → made ≡ mids ++ step_of next m (length mid) ∷ [] → IsLater (way made 0) (way steps c)
+  later_on next m made is small e =
       subst (λ (l : List Step). IsLater (way l 0) (way steps c)) (sym (e ∙ ap (λ (l : List Step). l ++ step_of next m (length mid) ∷ []) same))
-      (led_on steps (step_of next m (length mid)) c (became (attempts.Made next m) is).3)
+      (led_on steps (step_of next m (length mid)) c (became (attempts.Made next m) is).3 small)
 
-  pub later_past : (next : ℕ) → a ≡ attempts.Failed next → IsLater (way mids next) (way steps c)
-  later_past next is = subst (λ (l : List Step). IsLater (way l next) (way steps c)) (sym same) (led_past steps c next (became (attempts.Failed next) is).1)
+  pub later_past : (next : ℕ) → a ≡ attempts.Failed next → next < 2 ^ 64 → IsLater (way mids next) (way steps c)
+  later_past next is small = subst (λ (l : List Step). IsLater (way l next) (way steps c)) (sym same) (led_past steps c next (became (attempts.Failed next) is).1 small)
 
   pub later_back : (o : Option ℕ) (left : List Step) (new : List Binding) → IsBack o mids left mid new → IfSome o (λ d. IsLater (way left d) (way steps c))
   later_back None left new back = tt

@@ -1,5 +1,5 @@
 -- Where the search stands while it runs.
-use Rattle.std.specs.Prelude.{◌≡◌, ◌⊎◌, ◌<◌, ℕ, List, [], ◌∷◌, ◌++◌, Option, Some, None, length, take, drop, flat_map}
+use Rattle.std.specs.Prelude.{◌≡◌, ◌⊎◌, ◌<◌, ◌^◌, ℕ, List, [], ◌∷◌, ◌++◌, Option, Some, None, length, take, drop, flat_map}
 use Rattle.form_term.specs.declared.piece.Piece.{Piece}
 use Rattle.form_tree.specs.declared.pattern.PatternPiece.{PatternPiece}
 use Rattle.form_match.specs.declared.frames.Step.{Step}
@@ -54,8 +54,8 @@ way [] c = c ∷ []
 way (s ∷ steps) c = s.next ∷ way steps c
 
 -- A way comes later than another one in the order in which the search goes: the first of its candidates that differs is a
--- later one, or it ends where the other one still goes deeper.
+-- later one, whose number is below 2^64, or it ends where the other one still goes deeper.
 abbrev pub IsLater : (new old : List ℕ) → Type 0
 IsLater new [] = ⊥
 IsLater [] (c ∷ old) = Unit {0}
-IsLater (d ∷ new) (c ∷ old) = (c < d) ⊎ ((d ≡ c) × IsLater new old)
+IsLater (d ∷ new) (c ∷ old) = ((c < d) × (d < 2 ^ 64)) ⊎ ((d ≡ c) × IsLater new old)

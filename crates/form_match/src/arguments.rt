@@ -1,5 +1,5 @@
 //! Pieces of a pattern where arguments of a function are open.
-ghost use Rattle.std.specs.Prelude.{◌≡◌, ◌+◌, ◌≤◌, List, Option, None, IfOk, drop, length, option_map, take as take_first};
+ghost use Rattle.std.specs.Prelude.{◌≡◌, ◌+◌, ◌<◌, ◌≤◌, ◌^◌, List, Option, None, IfOk, drop, length, option_map, take as take_first};
 ghost use Rattle.form_term.specs.declared.piece.Piece.{Piece};
 ghost use Rattle.form_term.specs.Arguments.{arguments_of};
 ghost use Rattle.form_term.specs.Term.{Argument, AreArguments, pieces_of_argument};
@@ -19,8 +19,10 @@ ghost use Rattle.form_bindings.specs.Values.{Binding};
 
 use crate::asking::{ask_declared, ask_expression, ask_vector};
 use crate::frames::{
-    Attempt, Frame, Ground, Move, Span, Step, alone, around_at, frame_at, pieces_at, without,
+    Attempt, Frame, Ground, Move, Span, Step, alone, around_at, frame_at, host_at, pieces_at,
+    without,
 };
+use crate::host::Host;
 use form_base::Id;
 use form_bindings::{Bindings, Wildcard, is_same};
 use form_frac::Frac;
@@ -51,14 +53,7 @@ pub fn attempt_argument(
             attempt_field(steps, bindings, pieces, span, *field, candidate)
         }
         _ => attempt_single(
-            alloc,
-            steps,
-            bindings,
-            outermost.fixed,
-            pieces,
-            span,
-            piece,
-            candidate,
+            alloc, steps, bindings, outermost, pieces, span, piece, candidate,
         ),
     }
 }
@@ -68,7 +63,7 @@ fn attempt_single(
     alloc: Global,
     steps: &[Step],
     bindings: &mut Bindings,
-    fixed: &[Option<Call>],
+    outermost: &Ground,
     pieces: &[Piece],
     span: &Span,
     piece: &PatternPiece,
@@ -76,18 +71,21 @@ fn attempt_single(
 ) -> Result<Attempt, AllocError>
     requires framed { frame_in steps.now (length steps.now) ≡ frames.Arguments span.now }
     requires lawful { AreArguments pieces.now }
-    ensures tried { (g : Host) (os : List Open) → pieces.now ≡ pieces_in steps.now g span.now →
-        StandBehind steps.now g os → IfOne piece.now
-        (IfOk result (λ a. IsAttempt a (table_of fixed.now) piece.now steps.now g os candidate bindings.old bindings.new)) }
+    requires room { span.now.from + length pieces.now < 2 ^ 64 }
+    ensures tried { (os : List Open) → pieces.now ≡ pieces_in steps.now (ground_of outermost.now) span.now →
+        StandBehind steps.now (ground_of outermost.now) os → IfOne piece.now
+        (IfOk result (λ a. IsAttempt a (table_of outermost.now.fixed.now) piece.now steps.now (ground_of outermost.now) os candidate bindings.old bindings.new)) }
     ensures kept { take_first (length bindings.old) bindings.new ≡ bindings.old }
 {
     if candidate != 0 {
         return Ok(Attempt::Spent);
     }
     match piece {
-        PatternPiece::EndOfArguments => end_of_arguments(steps, pieces),
+        PatternPiece::EndOfArguments => end_of_arguments(steps, outermost, pieces),
         PatternPiece::Product => begin_product(alloc, steps, pieces),
-        PatternPiece::Fixed(number) => attempt_fixed(steps, fixed, pieces, span, *number),
+        PatternPiece::Fixed(number) => {
+            attempt_fixed(steps, outermost.fixed, pieces, span, *number)
+        }
         PatternPiece::Any(sort, name) => { attempt_any(steps, bindings, pieces, span, *sort, name) }
         _ => Ok(Attempt::Spent),
     }
@@ -110,6 +108,7 @@ pub fn first_len(pieces: &[Piece]) -> usize
     requires { AreArguments pieces.now }
     ensures behind { arguments_of (drop result pieces.now) ≡ drop 1 (arguments_of pieces.now) }
     ensures lawful { AreArguments (drop result pieces.now) }
+    ensures within { result ≤ length pieces.now }
 {
     match first_argument(pieces) {
         Some((part, _)) => part.len(),
@@ -126,10 +125,14 @@ pub fn lawful_arguments(call: &Call)
 }
 
 /// The arguments of a function end: what is around them goes on.
-fn end_of_arguments(steps: &[Step], pieces: &[Piece]) -> Result<Attempt, AllocError>
-    ensures { (g : Host) (table : List (Option (List Piece))) (span : Span) (bs : List Binding) →
-        frame_in steps.now (length steps.now) ≡ frames.Arguments span → pieces.now ≡ pieces_in steps.now g span →
-        IsTried result table of_pattern.EndOfArguments steps.now g 0 bs bs }
+fn end_of_arguments(
+    steps: &[Step],
+    outermost: &Ground,
+    pieces: &[Piece],
+) -> Result<Attempt, AllocError>
+    ensures { (table : List (Option (List Piece))) (span : Span) (bs : List Binding) →
+        frame_in steps.now (length steps.now) ≡ frames.Arguments span → pieces.now ≡ pieces_in steps.now (ground_of outermost.now) span →
+        IsTried result table of_pattern.EndOfArguments steps.now (ground_of outermost.now) 0 bs bs }
 {
     if !pieces.is_empty() {
         return Ok(Attempt::Failed(1));
@@ -138,13 +141,22 @@ fn end_of_arguments(steps: &[Step], pieces: &[Piece]) -> Result<Attempt, AllocEr
     match frame_at(steps, around) {
         Frame::Factors(at) => Ok(alone(Frame::Factors(at), around_at(steps, around))),
         Frame::Calls(at, from) => {
-            let Some(next) = from.checked_add(1) else {
-                return Err(AllocError);
-            };
+            let next = behind_call(&host_at(steps, outermost, at), from);
             Ok(alone(Frame::Calls(at, next), around_at(steps, around)))
         }
         Frame::Arguments(_) => Ok(Attempt::Failed(1)),
     }
+}
+
+/// The place behind a function of a word: the word's end serves for any past it.
+fn behind_call(host: &Host, from: usize) -> usize
+    ensures { drop result host.now.term.others.word ≡ drop (from + 1) host.now.term.others.word }
+{
+    let length = host.term().word().len();
+    if from < length {
+        return from + 1;
+    }
+    length
 }
 
 /// An argument without wildcards, by its number.
@@ -153,10 +165,11 @@ fn attempt_fixed(
     fixed: &[Option<Call>],
     pieces: &[Piece],
     span: &Span,
-    number: u32,
+    number: usize,
 ) -> Result<Attempt, AllocError>
     requires framed { frame_in steps.now (length steps.now) ≡ frames.Arguments span.now }
     requires lawful { AreArguments pieces.now }
+    requires room { span.now.from + length pieces.now < 2 ^ 64 }
     ensures { (g : Host) (bs : List Binding) → pieces.now ≡ pieces_in steps.now g span.now →
         IsTried result (table_of fixed.now) (of_pattern.Fixed number) steps.now g 0 bs bs }
 {
@@ -170,10 +183,10 @@ fn attempt_fixed(
 }
 
 /// Whether an argument is the one of this number, which has no wildcards.
-pub fn is_fixed_argument(fixed: &[Option<Call>], number: u32, part: &[Piece]) -> bool
+pub fn is_fixed_argument(fixed: &[Option<Call>], number: usize, part: &[Piece]) -> bool
     ensures { result ≡ is_fixed_argument_of (table_of fixed.now) number part.now }
 {
-    match fixed.get(number as usize) {
+    match fixed.get(number) {
         Some(Some(call)) => is_same(part, call.pieces()),
         _ => false,
     }
@@ -190,6 +203,7 @@ fn attempt_any(
 ) -> Result<Attempt, AllocError>
     requires framed { frame_in steps.now (length steps.now) ≡ frames.Arguments span.now }
     requires lawful { AreArguments pieces.now }
+    requires room { span.now.from + length pieces.now < 2 ^ 64 }
     ensures tried { (g : Host) (table : List (Option (List Piece))) → pieces.now ≡ pieces_in steps.now g span.now →
         IsTried result table (of_pattern.Any sort name.now) steps.now g 0 bindings.old bindings.new }
     ensures kept { take_first (length bindings.old) bindings.new ≡ bindings.old }
@@ -289,6 +303,7 @@ fn vector_alone(part: &[Piece]) -> Option<Id>
 
 /// The arguments behind the first one go on.
 fn go_on(steps: &[Step], span: &Span, part: &[Piece]) -> Result<Attempt, AllocError>
+    requires { span.now.from + length part.now < 2 ^ 64 }
     ensures { IfOk result (λ a. a ≡ attempts.Made 1 (record {
       frame = frames.Arguments (record span.now { from = span.now.from + length part.now });
       around = around_in steps.now (length steps.now);
@@ -296,7 +311,7 @@ fn go_on(steps: &[Step], span: &Span, part: &[Piece]) -> Result<Attempt, AllocEr
       inner = None;
     })) }
 {
-    let frame = without(span, part.len())?;
+    let frame = without(span, part.len());
     Ok(alone(frame, around_at(steps, steps.len())))
 }
 
@@ -306,11 +321,12 @@ fn attempt_field(
     bindings: &mut Bindings,
     pieces: &[Piece],
     span: &Span,
-    field: u32,
+    field: usize,
     candidate: usize,
 ) -> Result<Attempt, AllocError>
     requires framed { frame_in steps.now (length steps.now) ≡ frames.Arguments span.now }
     requires lawful { AreArguments pieces.now }
+    requires room { span.now.from + length pieces.now < 2 ^ 64 }
     ensures tried { (g : Host) (table : List (Option (List Piece))) → pieces.now ≡ pieces_in steps.now g span.now →
         IsTried result table (of_pattern.Field field) steps.now g candidate bindings.old bindings.new }
     ensures kept { take_first (length bindings.old) bindings.new ≡ bindings.old }
@@ -321,10 +337,8 @@ fn attempt_field(
         return Ok(Attempt::Spent);
     }
     let len = arguments_len(pieces, candidate);
-    let Some(next) = len.checked_add(1) else {
-        return Err(AllocError);
-    };
-    let frame = without(span, len)?;
+    let next = next_candidate(pieces, len);
+    let frame = without(span, len);
     let (front, _) = pieces.split_at(len);
     if !bindings.learn(Wildcard::Field(field), front)? {
         return Ok(Attempt::Failed(next));
@@ -338,6 +352,14 @@ fn attempt_field(
             inner: None,
         },
     ))
+}
+
+/// The candidate behind a field of so many pieces.
+fn next_candidate(pieces: &[Piece], len: usize) -> usize
+    requires { len ≤ length pieces.now }
+    ensures { result ≡ len + 1 }
+{
+    len + 1
 }
 
 /// How many pieces the fewest of these arguments have that have at least so many.

@@ -11,7 +11,7 @@ use crate::Use;
 use crate::asking::{ask_exponent, ask_index, ask_symbol, ask_vector, ask_zero};
 use crate::host::Host;
 use form_base::Id;
-use form_bindings::{Bindings, short};
+use form_bindings::Bindings;
 use form_term::{Component, Delta, DotPower, Index, Power};
 use form_tree::{IndexName, Name};
 use std::alloc::AllocError;
@@ -185,7 +185,7 @@ pub fn dot(
 {
     match host.term().dots().get(candidate / 2) {
         Some(of) => {
-            let place = short(candidate / 2)?;
+            let place = candidate / 2;
             if !fits(host.is_exact(), &of.exponent, power) {
                 return Ok(None);
             }
@@ -200,7 +200,7 @@ fn take_dot(
     left: &Name,
     right: &Name,
     power: &i64,
-    place: u32,
+    place: usize,
     of: &DotPower,
     is_swapped: bool,
 ) -> Result<Option<Use>, AllocError>
@@ -234,7 +234,7 @@ pub fn component(
     ensures kept { take (length bindings.old) bindings.new ≡ bindings.old }
 {
     match host.term().components().get(candidate) {
-        Some(of) => take_component(bindings, vector, index, short(candidate)?, of),
+        Some(of) => take_component(bindings, vector, index, candidate, of),
         None => Ok(None),
     }
 }
@@ -243,7 +243,7 @@ fn take_component(
     bindings: &mut Bindings,
     vector: &Name,
     index: &IndexName,
-    place: u32,
+    place: usize,
     of: &Component,
 ) -> Result<Option<Use>, AllocError>
     ensures told { IfOk result (λ r.
@@ -276,7 +276,7 @@ pub fn delta(
             bindings,
             first,
             second,
-            short(candidate / 2)?,
+            candidate / 2,
             of,
             candidate % 2 == 1,
         ),
@@ -288,7 +288,7 @@ fn take_delta(
     bindings: &mut Bindings,
     first: &IndexName,
     second: &IndexName,
-    place: u32,
+    place: usize,
     of: &Delta,
     is_swapped: bool,
 ) -> Result<Option<Use>, AllocError>
@@ -309,7 +309,7 @@ fn take_indices(
     second: &IndexName,
     left: &Index,
     right: &Index,
-    place: u32,
+    place: usize,
 ) -> Result<Option<Use>, AllocError>
     ensures told { IfOk result (λ r. Chooses r (chosen_of bindings.old
         (taking (uses.Delta place) (and_asked (asked_index first.now left.now) (asked_index second.now right.now)))) bindings.new) }

@@ -1,5 +1,5 @@
 //! Pieces of a pattern where the factors of a term, or the functions of its word, are open.
-ghost use Rattle.std.specs.Prelude.{◌≡◌, ◌≢◌, ◌-◌, ◌^◌, ◌<◌, ℕ, List, Option, IfOk, length, option_map, slice_get, take as take_first};
+ghost use Rattle.std.specs.Prelude.{◌≡◌, ◌≢◌, ◌-◌, ◌^◌, ◌<◌, ◌≤◌, ℕ, List, Option, IfOk, length, option_map, slice_get, take as take_first};
 ghost use Rattle.form_term.specs.declared.piece.Piece.{Piece};
 ghost use Rattle.form_tree.specs.declared.pattern.PatternPiece.{PatternPiece};
 ghost use Rattle.form_tree.specs.declared.pattern.PatternPiece.TheVariants as of_pattern;
@@ -22,7 +22,7 @@ use crate::frames::{
 };
 use crate::host::Host;
 use crate::whole::is_taken_whole;
-use form_bindings::{Bindings, short};
+use form_bindings::Bindings;
 use form_term::Call;
 use form_tree::{Name, PatternPiece};
 use std::alloc::{AllocError, Global};
@@ -182,8 +182,7 @@ fn attempt_function(
     let Some(call) = call_at(host.term().functions(), candidate) else {
         return Ok(Attempt::Spent);
     };
-    let place = short(candidate)?;
-    if !is_free(steps, at, &Use::Function(place)) {
+    if !is_free(steps, at, &Use::Function(candidate)) {
         return Ok(Attempt::Failed(candidate + 1));
     }
     if !ask_function(bindings, name, call.function())? {
@@ -202,7 +201,7 @@ fn attempt_function(
             around: steps.len(),
             taken: Some(Taken {
                 host: at,
-                made: Use::Function(place),
+                made: Use::Function(candidate),
             }),
             inner: None,
         },
@@ -236,7 +235,7 @@ fn attempt_word(
     if room < wanted {
         return Ok(Attempt::Spent);
     }
-    let place = short(candidate)?;
+    let place = place_in_word(host, candidate);
     if !is_uncut(host.cuts(), count, candidate) {
         return Ok(Attempt::Failed(candidate + 1));
     }
@@ -255,6 +254,15 @@ fn attempt_word(
             inner: None,
         },
     ))
+}
+
+/// A place in the word of a term, which is no longer than a term may be.
+pub fn place_in_word(host: &Host, place: usize) -> u32
+    requires { place ≤ length host.now.term.others.word }
+    ensures { result ≡ place }
+{
+    let _ = host.term().powers();
+    place as u32
 }
 
 /// The factors of an argument end: they have to have taken it whole, and the arguments behind it go on.
@@ -302,7 +310,7 @@ fn end_of_argument(
         return Ok(Attempt::Failed(1));
     }
     let len = first_len(pieces_at(steps, outermost, span));
-    let frame = without(span, len)?;
+    let frame = without(span, len);
     Ok(alone(frame, around_at(steps, around)))
 }
 

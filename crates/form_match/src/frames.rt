@@ -1,5 +1,5 @@
 //! Where the search stands: what is open, the steps that it has made, and what becomes of a candidate.
-ghost use Rattle.std.specs.Prelude.{◌≡◌, ◌+◌, ◌++◌, None, drop, not, option_map, option_to_list, IfOk, OnOk};
+ghost use Rattle.std.specs.Prelude.{◌≡◌, ◌+◌, ◌<◌, ◌^◌, ◌++◌, None, drop, length, not, option_map, option_to_list, IfOk, OnOk};
 ghost use Rattle.std.specs.List.{list_any};
 ghost use Rattle.form_match.specs.declared.frames.Attempt.TheVariants as attempts;
 ghost use Rattle.form_match.specs.declared.frames.Frame.TheVariants as frames;
@@ -161,8 +161,10 @@ pub fn host_at<'a>(steps: &'a [Step], outermost: &Ground<'a>, count: usize) -> H
 
 /// The pieces of these arguments.
 pub fn pieces_at<'a>(steps: &'a [Step], outermost: &Ground<'a>, span: &Span) -> &'a [Piece]
-    ensures { result.now ≡ pieces_in steps.now (ground_of outermost.now) span.now }
+    ensures pieces { result.now ≡ pieces_in steps.now (ground_of outermost.now) span.now }
+    ensures room { span.now.from + length result.now < 2 ^ 64 }
 {
+    let from = span.from;
     let term = host_at(steps, outermost, span.host).term();
     let calls = if span.in_word {
         term.word()
@@ -170,13 +172,14 @@ pub fn pieces_at<'a>(steps: &'a [Step], outermost: &Ground<'a>, span: &Span) -> 
         term.functions()
     };
     match calls.get(span.place) {
-        Some(call) => behind(call.pieces(), span.from),
+        Some(call) => behind(call.pieces(), from),
         None => &[],
     }
 }
 
 fn behind(pieces: &[Piece], from: usize) -> &[Piece]
-    ensures { result.now ≡ drop from pieces.now }
+    ensures behind { result.now ≡ drop from pieces.now }
+    ensures room { from + length result.now < 2 ^ 64 }
 {
     if from < pieces.len() {
         &pieces[from..]
@@ -186,18 +189,16 @@ fn behind(pieces: &[Piece], from: usize) -> &[Piece]
 }
 
 /// These arguments without so many pieces.
-pub fn without(span: &Span, count: usize) -> Result<Frame, AllocError>
-    ensures { IfOk result (λ f. f ≡ frames.Arguments (record span.now { from = span.now.from + count })) }
+pub fn without(span: &Span, count: usize) -> Frame
+    requires { span.now.from + count < 2 ^ 64 }
+    ensures { result ≡ frames.Arguments (record span.now { from = span.now.from + count }) }
 {
-    let Some(from) = span.from.checked_add(count) else {
-        return Err(AllocError);
-    };
-    Ok(Frame::Arguments(Span {
+    Frame::Arguments(Span {
         host: span.host,
         in_word: span.in_word,
         place: span.place,
-        from,
-    }))
+        from: span.from + count,
+    })
 }
 
 /// Whether nothing that was taken of a term clashes with this.

@@ -1,4 +1,4 @@
-ghost use Rattle.std.specs.Prelude.{◌≡◌, ◌++◌, ◌+◌, ◌<◌, ◌^◌, ◌-ℤ◌, [], All, IsTrue, IfOk, OnOk, length, nat_abs, nat_lt, take, drop};
+ghost use Rattle.std.specs.Prelude.{◌≡◌, ◌++◌, ◌+◌, ◌<◌, ◌-ℤ◌, All, IsTrue, IfOk, OnOk, length, nat_abs, nat_lt, take, drop};
 ghost use Rattle.std.specs.Bool.{OnTrue};
 ghost use Rattle.std.specs.List.{list_any};
 ghost use Rattle.form_match.specs.Fits.{Fits, FitsExponent};
@@ -14,7 +14,7 @@ use form_term::{Call, Component, Delta, DotPower, Others, Power, Term};
 use std::alloc::{AllocError, Global};
 use std::mem;
 
-/// What is left of a term once a match is taken out. Its powers and commuting functions stay in their memory.
+/// What is left of a term once a match is taken out. Its powers and functions stay in their memory.
 pub fn left_of(alloc: Global, term: Term, takes: &[Use]) -> Result<Term, AllocError>
     requires { Fits takes.now term }
     ensures { IfOk result (λ t. t ≡ left_of_term term takes.now) }
@@ -59,7 +59,7 @@ fn leave_each(alloc: Global, others: &mut Others, takes: &[Use]) -> Result<(), A
     others.components = components_left(alloc, others.components.as_slice(), takes)?;
     others.deltas = deltas_left(alloc, others.deltas.as_slice(), takes)?;
     let word = mem::replace(&mut others.word, Vec::new(alloc));
-    others.word = word_left(alloc, word, takes)?;
+    others.word = word_left(word, takes);
     Ok(())
 }
 
@@ -245,55 +245,39 @@ fn is_of_function(one: &Use) -> bool
     }
 }
 
-fn word_left(alloc: Global, word: Vec<Call>, takes: &[Use]) -> Result<Vec<Call>, AllocError>
-    ensures { IfOk result (λ left. left.items ≡ word_left_of takes.now word.items) }
+fn word_left(word: Vec<Call>, takes: &[Use]) -> Vec<Call>
+    ensures { result.items ≡ word_left_of takes.now word.items }
 {
     let mut left = word;
     for one in takes {
-        left = without_use(alloc, left, one)?;
+        left = without_use(left, one);
     }
-    Ok(left)
+    left
 }
 
 /// A word without what is taken of it here.
-fn without_use(alloc: Global, word: Vec<Call>, one: &Use) -> Result<Vec<Call>, AllocError>
-    ensures { IfOk result (λ left. left.items ≡ without_stretch_of one.now word.items) }
+fn without_use(word: Vec<Call>, one: &Use) -> Vec<Call>
+    ensures { result.items ≡ without_stretch_of one.now word.items }
 {
     match one {
-        Use::Stretch(start, count) => without_stretch(
-            alloc,
-            word.as_slice(),
-            *start as usize,
-            *count as usize,
-        ),
-        _ => Ok(word),
+        Use::Stretch(start, count) => without_stretch(word, *start as usize, *count as usize),
+        _ => word,
     }
 }
 
-/// A word without the stretch that begins at a place and has so many functions.
-fn without_stretch(
-    alloc: Global,
-    word: &[Call],
-    start: usize,
-    count: usize,
-) -> Result<Vec<Call>, AllocError>
-    requires start { start < 2 ^ 32 }
-    requires count { count < 2 ^ 32 }
-    ensures { IfOk result (λ left. left.items ≡ take start word.now ++ drop (start + count) word.now) }
+/// A word without the stretch that begins at a place and has so many functions. The others stay in their memory.
+fn without_stretch(word: Vec<Call>, start: usize, count: usize) -> Vec<Call>
+    ensures { result.items ≡ take start word.items ++ drop (start + count) word.items }
 {
-    let mut left = Vec::with_capacity(alloc, word.len())?;
-    let length = word.len();
-    put_calls(&mut left, &word[..start.min(length)])?;
-    put_calls(&mut left, &word[(start + count).min(length)..])?;
-    Ok(left)
-}
-
-/// Puts copies of functions last.
-fn put_calls(left: &mut Vec<Call>, calls: &[Call]) -> Result<(), AllocError>
-    ensures { OnOk result (left.new.items ≡ left.old.items ++ calls.now) }
-{
-    for call in calls {
-        left.push(call.clone()?)?;
+    let mut left = word;
+    let mut gone: usize = 0;
+    while gone < count {
+        let length = left.len();
+        if length <= start {
+            return left;
+        }
+        left.remove(start);
+        gone += 1;
     }
-    Ok(())
+    left
 }

@@ -15,6 +15,7 @@ mod pattern;
 mod search;
 mod sets;
 mod straight;
+mod stretches;
 mod symbols;
 mod taken;
 mod uses;

@@ -48,17 +48,14 @@ impl Search {
             (uses_at self.new.steps.items 0) self.new.bindings) }
     {
         let mut candidate: usize = 0;
-        for _ in 0..u64::MAX {
-            let Some(piece) = piece_at(pieces, self.steps.len()) else {
-                return Ok(true);
-            };
+        while let Some(piece) = piece_at(pieces, self.steps.len()) {
             let advanced = self.advance(alloc, outermost, piece, candidate)?;
             let Some(next) = advanced else {
                 return Ok(false);
             };
             candidate = next;
         }
-        Err(AllocError)
+        Ok(true)
     }
 
     /// Goes on from a candidate of a piece: the candidate that is next then, none where there is none any more.

@@ -1,5 +1,5 @@
-//! Patterns that are powers of symbols that are no wildcards, and then at most one function, each of whose arguments has one
-//! candidate: they are tried straight on, and no search is begun.
+//! Patterns that are powers of symbols that are no wildcards, and then at most one function, or one stretch of the word
+//! (`stretches`), with arguments that have one candidate each: they are tried straight on, and no search is begun.
 ghost use Rattle.std.specs.Prelude.{◌≡◌, ◌∷◌, [], true, List, Option, IfOk, IfSome, length, option_map, option_to_list, flat_map, take};
 ghost use Rattle.form_term.specs.declared.piece.Piece.{Piece};
 ghost use Rattle.form_term.specs.Arguments.{arguments_of};
@@ -18,9 +18,10 @@ use crate::asking::ask_function;
 use crate::choices::{take_absent, take_symbol, take_whole};
 use crate::frames::Ground;
 use crate::host::Host;
+use crate::stretches::{is_straight_word, word_match};
 use crate::symbols::{clashes, power_at};
 use crate::{Use, Uses};
-use form_bindings::{Bindings, short};
+use form_bindings::Bindings;
 use form_term::{Call, Piece, Power};
 use form_tree::{Name, PatternPiece};
 use std::alloc::AllocError;
@@ -44,6 +45,7 @@ fn is_straight_call(piece: &PatternPiece, others: &[PatternPiece]) -> bool
 {
     match piece {
         PatternPiece::Function(_) => are_single(others),
+        PatternPiece::Word(count) => is_straight_word(*count, others),
         _ => false,
     }
 }
@@ -95,6 +97,9 @@ pub fn straight_match(
     };
     match piece {
         PatternPiece::Function(name) => call_match(takes, bindings, outermost, name, behind),
+        PatternPiece::Word(count) => {
+            word_match(takes, bindings, &host, outermost.fixed, *count, behind)
+        }
         _ => Ok(false),
     }
 }
@@ -243,8 +248,7 @@ fn first_call(
     let count = bindings.count();
     let mut place: usize = 0;
     for call in functions {
-        let number = short(place)?;
-        let one = Use::Function(number);
+        let one = Use::Function(place);
         place += 1;
         if clashes(takes, &one) {
             continue;
@@ -313,7 +317,7 @@ fn take_arguments(
 }
 
 /// Whether a piece takes one argument, in one way at most.
-fn is_single(piece: &PatternPiece) -> bool
+pub fn is_single(piece: &PatternPiece) -> bool
     ensures { result ≡ is_single_piece piece.now }
 {
     match piece {
@@ -324,7 +328,7 @@ fn is_single(piece: &PatternPiece) -> bool
 }
 
 /// Whether such a piece takes this argument.
-fn take_argument(
+pub fn take_argument(
     bindings: &mut Bindings,
     fixed: &[Option<Call>],
     piece: &PatternPiece,

@@ -63,13 +63,7 @@ fn part_of_dot(place: usize, one: &Use) -> Option<i64>
     ensures { result ≡ dot_part place one.now }
 {
     match one {
-        Use::Dot(of, power) => {
-            if place == *of as usize {
-                Some(*power)
-            } else {
-                None
-            }
-        }
+        Use::Dot(of, power) => { if place == *of { Some(*power) } else { None } }
         _ => None,
     }
 }
@@ -84,7 +78,7 @@ fn takes_component(place: usize, one: &Use) -> bool
     ensures { result ≡ takes_component_at place one.now }
 {
     match one {
-        Use::Component(of) => place == *of as usize,
+        Use::Component(of) => place == *of,
         _ => false,
     }
 }
@@ -99,7 +93,7 @@ fn takes_delta(place: usize, one: &Use) -> bool
     ensures { result ≡ takes_delta_at place one.now }
 {
     match one {
-        Use::Delta(of) => place == *of as usize,
+        Use::Delta(of) => place == *of,
         _ => false,
     }
 }
@@ -114,7 +108,7 @@ fn takes_function(place: usize, one: &Use) -> bool
     ensures { result ≡ takes_function_at place one.now }
 {
     match one {
-        Use::Function(of) => place == *of as usize,
+        Use::Function(of) => place == *of,
         _ => false,
     }
 }

@@ -11,13 +11,13 @@ pub enum Use {
     /// So much of a symbol.
     Symbol(Id, i64),
     /// So much of the dot product at a place.
-    Dot(u32, i64),
+    Dot(usize, i64),
     /// The component at a place.
-    Component(u32),
+    Component(usize),
     /// The delta at a place.
-    Delta(u32),
+    Delta(usize),
     /// The commuting function at a place.
-    Function(u32),
+    Function(usize),
     /// A stretch of the word: where it begins, and how many functions it has.
     Stretch(u32, u32),
 }

@@ -1,25 +1,39 @@
 -- Expressions are carried out one by one.
-use Rattle.std.proofs.Common.{◌≡◌, ℕ, List, [], ◌∷◌, ◌++◌, map, Option, Result, Ok, Err, refl, sym, subst, ap, ◌∙◌}
+use Rattle.std.proofs.Common.{◌≡◌, ◌≤◌, ℕ, Bool, true, false, List, [], ◌∷◌, ◌++◌, filter, fold, length, map, Option, Some, None, Result, Ok, Err, refl, sym, subst, ap, ◌∙◌, append_assoc, append-nil}
+use Rattle.std.specs.Prelude.{All, if◌then◌else◌}
+use Rattle.std.specs.Bool.{OnTrue}
+use Rattle.std.specs.List.{AllByRecursion}
+use Rattle.std.specs.List.Sorted.{IsStrictlySortedBy}
+use Rattle.std.specs.Map.{keys_of}
+use Rattle.std.specs.Ordering.{nat_cmp}
+use Rattle.std.proofs.lemmas.Bool.{le-ltb}
+use Rattle.std.proofs.lemmas.List.Sums.{fold-append}
 use Rattle.form_base.specs.declared.cause.Cause.{Cause}
+use Rattle.form_base.specs.declared.cause.Cause.TheVariants.{TermLimit}
 use Rattle.form_base.specs.declared.settings.Settings.{Settings}
 use Rattle.form_term.specs.declared.monomial.Monomial.{Monomial}
+use Rattle.form_collect.specs.Collecting.{collected}
 use Rattle.form_tree.specs.Tree.{Sum}
 use Rattle.form_expand.specs.declared.stored.Stored.{Stored}
 use Rattle.form_expand.specs.Listing.{Listing}
-use Rattle.form_expand.specs.Meanings.{Meanings}
+use Rattle.form_expand.specs.Meanings.{Meanings, of_stored, terms_of}
 use Rattle.form_check.specs.declared.checked.Checked.{Checked}
-use Rattle.form_flow.specs.Groups.{groups_of}
-use Rattle.form_flow.specs.Parts.{AreParts}
-use Rattle.form_flow.specs.Ready.{Compiled}
-use Rattle.form_flow.specs.Rewriting.{Part}
-use Rattle.form_module.specs.Module.{Worked, AreTrees, HaveTrees, IsTreeOf, Refusal, inputs, result_of, results, before, with_result}
-use Rattle.form_module.specs.Answers.{AreCarriedOut, AreResults, IsRefused, at_expression}
-use Rattle.form_module.specs.Places.{work_at, right_side_by}
+use Rattle.form_check.specs.Program.{CheckedStatement, Module}
+use Rattle.form_flow.specs.Making.{compiled}
+use Rattle.form_flow.specs.Statement.{Compiled}
+use Rattle.form_flow.specs.Statements.{outputs}
+use Rattle.form_module.specs.Answers.{AreCarriedOut, IsRefused, at_expression}
+use Rattle.form_module.specs.Inputs.{IsTreeOf, inputs_of}
+use Rattle.form_module.specs.Module.{HasRightSide, Refusal, before, collected_list, inputs_by, module_outcome, or_overflow, outcome_by, result_of, results, standing_after, stays, with_expression, with_result, within}
+use Rattle.form_module.specs.Places.{right_side_by, work_at}
+use Rattle.form_module.specs.Settled.{AreAtRest, AreSettled, IsAlike}
 use Rattle.form_module.specs.Works.{works_of}
-use Rattle.form_module.specs.declared.error.ModuleError.{ModuleError}
+use Rattle.form_module.specs.declared.carry_error.CarryError.{CarryError}
 use Rattle.form_module.specs.declared.result_error.ResultError.{ResultError}
 use Rattle.form_module.specs.declared.result_error.ResultError.TheVariants.{Refused, Memory}
-use Rattle.form_module.proofs.Trees.{some_parts, some_trees}
+use Rattle.form_module.proofs.Collected.{all_of, as_they_are}
+use Rattle.form_module.proofs.Fitting.{Builds, IsFit, IsFitBy, inputs_built, works_fit}
+use Rattle.form_module.proofs.LeftOut.{IsOut, Made, all_or_shown, ids_more, ids_of, leaving_out, none_more, out_more, showing, shown, shown_more, stays_there, stored_more, stored_of}
 
 -- results that are made already, before the others
 abbrev pub before_all : List Stored → Result (List Stored) Refusal → Result (List Stored) Refusal
@@ -38,117 +52,151 @@ before_all_refused : (made : List Stored) (refusal : Refusal) → before_all mad
 before_all_refused [] refusal = refl
 before_all_refused (m ∷ ms) refusal = ap (before m) (before_all_refused ms refusal)
 
-module _ (settings : Settings) (statements : List Checked) (names : Meanings) where
-  -- These results are made, and what is at these places is left to carry out.
-  pub record IsCarriedTo (made : List Stored) (rest : List (ℕ × Option ℕ)) : Type 0 where
-    pub parts : List (List Part)
-    pub are_parts : AreParts (groups_of statements) parts
-    pub works : List Worked
-    pub are_works : AreTrees (works_of statements names.stored) works
-    pub left : List Worked
-    pub are_left : AreTrees (map (work_at statements) rest) left
-    pub carried : results settings parts names works ≡ before_all made (results settings parts names left)
+-- terms are the result of themselves where they are collected, and not too many
+pub settled : (most : ℕ) (terms : List Monomial) (is_collected : Bool) → length terms ≤ most → OnTrue is_collected (collected terms ≡ Some terms) → OnTrue is_collected (AreSettled most terms)
+settled most terms true few is =
+    ap (λ o. within most (or_overflow o)) is ∙ ap (λ (b : Bool). if b then Err TermLimit else Ok terms) (le-ltb most (length terms) few)
+settled most terms false few is = tt
 
-  pub begin : (made : List Stored) (rest entries : List (ℕ × Option ℕ)) → HaveTrees statements → map (work_at statements) entries ≡ works_of statements names.stored →
-      made ≡ [] → rest ≡ entries → IsCarriedTo made rest
-  begin made rest entries have are none all =
-      let parts = some_parts statements have in
-      let works = some_trees statements names.stored have in
-      record {
-        parts = parts.0;
-        are_parts = parts.1;
-        works = works.0;
-        are_works = works.1;
-        left = works.0;
-        are_left = subst (λ ws. AreTrees ws works.0) (sym (ap (map (work_at statements)) all ∙ are)) works.1;
-        carried = ap (λ m. before_all m (results settings parts.0 names works.0)) (sym none);
-      }
+module _ (settings : Settings) (statements : List Checked) (ready : Compiled) (names : Meanings) where
+  -- what stays, in its places
+  abbrev Staying : List Stored
+  Staying = fold with_expression [] (filter (stays statements) names.stored)
 
-  -- what is meant by an expression, once its tree and those of the statements are known
-  abbrev Meant : List (List Part) → ℕ → Option Sum → Result (List Monomial) Cause
-  Meant parts id tree = result_of settings.max_expand settings.max_terms parts (inputs settings.max_expand names id tree)
+  -- These results are made, of which some are left out, and what is at these places is left to carry out.
+  pub record IsCarriedTo (entries : List (ℕ × Option ℕ)) (made : List Stored) (rest : List (ℕ × Option ℕ)) : Type 0 where
+    pub so_far : List Made
+    pub are_shown : made ≡ shown so_far
+    pub ids : ids_of so_far ++ keys_of rest ≡ keys_of entries
+    pub out : AllByRecursion (IsOut Staying) so_far
+    pub fit : AllByRecursion (IsFit statements names.stored) (map (work_at statements) rest)
+    pub carried : results settings ready names (works_of statements names.stored) ≡ before_all (stored_of so_far) (results settings ready names (map (work_at statements) rest))
 
-  -- what is said of it, whatever its trees are
-  abbrev pub Says : ℕ → Option ℕ → (Result (List Monomial) Cause → Type 0) → Type 0
-  Says id place what = (parts : List (List Part)) → AreParts (groups_of statements) parts → (tree : Option Sum) → IsTreeOf (right_side_by statements place) tree → what (Meant parts id tree)
+  pub begin : (entries : List (ℕ × Option ℕ)) (made : List Stored) (rest : List (ℕ × Option ℕ)) → Builds → All HasRightSide statements →
+      map (work_at statements) entries ≡ works_of statements names.stored → made ≡ [] → rest ≡ entries → IsCarriedTo entries made rest
+  begin entries made rest builds have are none all = record {
+    so_far = [];
+    are_shown = none;
+    ids = ap keys_of all;
+    out = tt;
+    fit = subst (AllByRecursion (IsFit statements names.stored)) (sym (ap (map (work_at statements)) all ∙ are)) (works_fit builds statements names.stored have);
+    carried = ap (results settings ready names) (sym (ap (map (work_at statements)) all ∙ are));
+  }
 
-  abbrev Rest : List (List Part) → List Worked → Result (List Stored) Refusal
-  Rest parts left = results settings parts names left
+  -- what is meant by an expression that is carried out
+  abbrev pub Meant : ℕ → Option ℕ → Result (List Monomial) Cause
+  Meant id place = result_of settings.max_terms ready (inputs_by settings.max_expand names id (right_side_by statements place))
+
+  abbrev Rest : List (ℕ × Option ℕ) → Result (List Stored) Refusal
+  Rest rest = results settings ready names (map (work_at statements) rest)
 
   -- the first of what is left
-  first_meant : (parts : List (List Part)) (t : Worked) (ts : List Worked) (id : ℕ) (r : Result (List Monomial) Cause) → t.expression ≡ id → Meant parts id t.tree ≡ r →
-      Rest parts (t ∷ ts) ≡ with_result id r (Rest parts ts)
-  first_meant parts t ts id r same meant =
-      ap (λ e. with_result e (Meant parts e t.tree) (Rest parts ts)) same ∙ ap (λ x. with_result id x (Rest parts ts)) meant
+  first_meant : (id : ℕ) (place : Option ℕ) (later : List (ℕ × Option ℕ)) (r : Result (List Monomial) Cause) → Meant id place ≡ r → Rest ((id, place) ∷ later) ≡ with_result id r (Rest later)
+  first_meant id place later r meant = ap (λ x. with_result id x (Rest later)) meant
 
-  -- one result more
-  pub more : (made now : List Stored) (id : ℕ) (place : Option ℕ) (terms : List Monomial) (rest later : List (ℕ × Option ℕ)) → rest ≡ (id, place) ∷ later →
-      Says id place (λ r. r ≡ Ok terms) → now ≡ made ++ record { expression = id; terms = terms } ∷ [] → IsCarriedTo made rest → IsCarriedTo now later
-  more made now id place terms rest later first gives is c =
-      subst (λ m. IsCarriedTo m later) (sym is) (by c.left (subst (λ es. AreTrees (map (work_at statements) es) c.left) first c.are_left) c.carried)
-    where
-      by : (left : List Worked) → AreTrees (work_at statements (id, place) ∷ map (work_at statements) later) left →
-          Rest c.parts c.works ≡ before_all made (Rest c.parts left) →
-          IsCarriedTo (made ++ record { expression = id; terms = terms } ∷ []) later
-      by [] are carried = absurd are
-      by (t ∷ ts) are carried = record {
-        parts = c.parts;
-        are_parts = c.are_parts;
-        works = c.works;
-        are_works = c.are_works;
-        left = ts;
-        are_left = are.2;
-        carried = carried
-            ∙ ap (before_all made) (first_meant c.parts t ts id (Ok terms) are.0 (gives c.parts c.are_parts t.tree are.1))
-            ∙ before_all_more made (record { expression = id; terms = terms }) (Rest c.parts ts);
+  module _ (entries : List (ℕ × Option ℕ)) (made : List Stored) (rest : List (ℕ × Option ℕ)) (c : IsCarriedTo entries made rest) where
+    module _ (id : ℕ) (place : Option ℕ) (later : List (ℕ × Option ℕ)) (first : rest ≡ (id, place) ∷ later) where
+      fit_here : AllByRecursion (IsFit statements names.stored) (map (work_at statements) ((id, place) ∷ later))
+      fit_here = subst (λ es. AllByRecursion (IsFit statements names.stored) (map (work_at statements) es)) first c.fit
+
+      pub first_fits : IsFitBy statements names.stored id (right_side_by statements place)
+      first_fits = fit_here.0
+
+      -- what is meant by it, by what is left of its inputs
+      pub meant_by : (left : Listing) (what : Result (List Monomial) Cause → Type 0) →
+          ((tree : Option Sum) → IsTreeOf (right_side_by statements place) tree → left ≡ inputs_of settings.max_expand names id tree) → what (result_of settings.max_terms ready left) → what (Meant id place)
+      meant_by left what reads gives =
+          subst (λ (l : Listing). what (result_of settings.max_terms ready l))
+          (inputs_built left settings.max_expand names statements names.stored id (right_side_by statements place) first_fits reads) gives
+
+      -- one result more
+      with_made : (m : Made) (terms : List Monomial) (now : List Stored) → Meant id place ≡ Ok terms → m.stored ≡ record { expression = id; terms = terms } → IsOut Staying m → now ≡ shown (c.so_far ++ m ∷ []) → IsCarriedTo entries now later
+      with_made m terms now meant is out is_now = record {
+        so_far = c.so_far ++ m ∷ [];
+        are_shown = is_now;
+        ids = ap (λ ns. ns ++ keys_of later) (ids_more c.so_far m)
+            ∙ append_assoc (ids_of c.so_far) (m.stored.expression ∷ []) (keys_of later)
+            ∙ ap (λ (x : Stored). ids_of c.so_far ++ x.expression ∷ keys_of later) is
+            ∙ ap (λ es. ids_of c.so_far ++ keys_of es) (sym first)
+            ∙ c.ids;
+        out = out_more Staying c.so_far m c.out out;
+        fit = fit_here.1;
+        carried = c.carried
+            ∙ ap (λ es. before_all (stored_of c.so_far) (Rest es)) first
+            ∙ ap (before_all (stored_of c.so_far)) (first_meant id place later (Ok terms) meant)
+            ∙ before_all_more (stored_of c.so_far) (record { expression = id; terms = terms }) (Rest later)
+            ∙ ap (λ x. before_all (stored_of c.so_far ++ x ∷ []) (Rest later)) (sym is)
+            ∙ ap (λ es. before_all es (Rest later)) (sym (stored_more c.so_far m));
       }
 
-  -- the first refusal
-  pub refused : (made : List Stored) (id : ℕ) (place : Option ℕ) (rest later : List (ℕ × Option ℕ)) (error : ResultError) (answer : ModuleError) → rest ≡ (id, place) ∷ later →
-      answer ≡ at_expression id error → Says id place (IsRefused error) → IsCarriedTo made rest → AreCarriedOut settings statements names (Err answer)
-  refused made id place rest later error answer first is gives c =
-      subst (λ a. AreCarriedOut settings statements names (Err a)) (sym is) (by error gives)
-    where
-      at_first : (cause : Cause) (left : List Worked) → AreTrees (work_at statements (id, place) ∷ map (work_at statements) later) left →
-          Says id place (IsRefused (Refused cause)) → Rest c.parts c.works ≡ before_all made (Rest c.parts left) →
-          Rest c.parts c.works ≡ Err (record { cause = cause; expression = id })
-      at_first cause [] are stops carried = absurd are
-      at_first cause (t ∷ ts) are stops carried =
-          carried
-          ∙ ap (before_all made) (first_meant c.parts t ts id (Err cause) are.0 (stops c.parts c.are_parts t.tree are.1))
-          ∙ before_all_refused made (record { cause = cause; expression = id })
+      pub more : (terms : List Monomial) (now : List Stored) → Meant id place ≡ Ok terms → now ≡ made ++ record { expression = id; terms = terms } ∷ [] → IsCarriedTo entries now later
+      more terms now meant put =
+          let x : Stored = record { expression = id; terms = terms } in
+          with_made (showing x) terms now meant refl tt (put ∙ ap (λ es. es ++ x ∷ []) c.are_shown ∙ sym (shown_more c.so_far x))
 
-      by : (e : ResultError) → Says id place (IsRefused e) → AreCarriedOut settings statements names (Err (at_expression id e))
-      by (Refused cause) stops = record {
-        parts = c.parts;
-        are_parts = c.are_parts;
-        works = c.works;
-        are_works = c.are_works;
-        carried = at_first cause c.left (subst (λ es. AreTrees (map (work_at statements) es) c.left) first c.are_left) stops c.carried;
-      }
-      by Memory stops = tt
+      -- one that is left out
+      own_meant : AreAtRest ready names.stored → place ≡ None → AreSettled settings.max_terms (terms_of names id) → Meant id place ≡ Ok (terms_of names id)
+      own_meant at_rest own is =
+          ap (Meant id) own
+          ∙ ap (λ l. within settings.max_terms (collected_list l)) (sym (as_they_are (outputs ready) at_rest.leave (all_of (terms_of names id))))
+          ∙ is
 
-  -- all of them
-  pub done : (made : List Stored) (rest : List (ℕ × Option ℕ)) → rest ≡ [] → IsCarriedTo made rest → AreResults settings statements names (Ok made)
-  done made rest none c = record {
-    parts = c.parts;
-    are_parts = c.are_parts;
-    works = c.works;
-    are_works = c.are_works;
-    carried = by c.left (subst (λ es. AreTrees (map (work_at statements) es) c.left) none c.are_left) c.carried;
-  }
-    where
-      by : (left : List Worked) → AreTrees [] left → Rest c.parts c.works ≡ before_all made (Rest c.parts left) → Rest c.parts c.works ≡ Ok made
-      by [] are carried = carried ∙ before_all_none made
-      by (t ∷ ts) are carried = absurd are
+      own_fits : place ≡ None → IsFitBy statements names.stored id None
+      own_fits own = subst (λ (p : Option ℕ). IsFitBy statements names.stored id (right_side_by statements p)) own first_fits
 
-  -- what is said of it, by what the inputs are and what is made of them
-  pub said : (made : Compiled) (left : Listing) (id : ℕ) (place : Option ℕ) (what : Result (List Monomial) Cause → Type 0) →
-      made ≡ record { limit = settings.max_expand; groups = groups_of statements } →
-      ((tree : Option Sum) → IsTreeOf (right_side_by statements place) tree → left ≡ inputs settings.max_expand names id tree) →
-      ((parts : List (List Part)) → AreParts made.groups parts → what (result_of made.limit settings.max_terms parts left)) → Says id place what
-  said made left id place what is reads gives parts are tree has =
-      subst what
-      (ap (result_of settings.max_expand settings.max_terms parts) (reads tree has))
-      (subst (λ (c : Compiled). what (result_of c.limit settings.max_terms parts left)) is
-      (gives parts (subst (λ (c : Compiled). AreParts c.groups parts) (sym is) are)))
+      pub left_out : (is_at_rest : Bool) → OnTrue is_at_rest (AreAtRest ready names.stored) → IsAlike is_at_rest settings.max_terms names id place → IsCarriedTo entries made later
+      left_out is_at_rest rests alike =
+          let x : Stored = record { expression = id; terms = terms_of names id } in
+          let at_rest : AreAtRest ready names.stored = subst (λ b. OnTrue b (AreAtRest ready names.stored)) alike.at_rest rests in
+          let fits = own_fits alike.own in
+          with_made (leaving_out x) (terms_of names id) made (own_meant at_rest alike.own alike.settled) refl (stays_there statements names.stored [] id at_rest.ascend fits.0 fits.1) (c.are_shown ∙ sym (none_more c.so_far x))
+
+      -- the first refusal
+      pub refused : (error : ResultError) (answer : CarryError) → answer ≡ at_expression id error → IsRefused error (Meant id place) → AreCarriedOut settings statements ready names (Err answer)
+      refused error answer is meant = subst (λ a. AreCarriedOut settings statements ready names (Err a)) (sym is) (by error meant)
+        where
+          by : (e : ResultError) → IsRefused e (Meant id place) → AreCarriedOut settings statements ready names (Err (at_expression id e))
+          by (Refused cause) stops =
+              ap (standing_after statements names.stored)
+              (c.carried
+              ∙ ap (λ es. before_all (stored_of c.so_far) (Rest es)) first
+              ∙ ap (before_all (stored_of c.so_far)) (first_meant id place later (Err cause) stops)
+              ∙ before_all_refused (stored_of c.so_far) (record { cause = cause; expression = id }))
+          by Memory stops = tt
+
+    -- all of them
+    pub done : rest ≡ [] → IsStrictlySortedBy nat_cmp (keys_of entries) → outcome_by settings statements ready names ≡ standing_after statements names.stored (Ok made)
+    done none rise =
+        let ids : ids_of c.so_far ≡ keys_of entries = sym (append-nil (ids_of c.so_far)) ∙ ap (λ es. ids_of c.so_far ++ keys_of es) (sym none) ∙ c.ids in
+        let stay = filter (stays statements) names.stored in
+        ap (standing_after statements names.stored)
+        (c.carried
+        ∙ ap (λ es. before_all (stored_of c.so_far) (Rest es)) none
+        ∙ before_all_none (stored_of c.so_far))
+        ∙ ap Ok
+        (fold-append with_expression [] stay (stored_of c.so_far)
+        ∙ all_or_shown Staying c.so_far c.out (subst (IsStrictlySortedBy nat_cmp) (sym ids) rise)
+        ∙ ap (fold with_expression Staying) (sym c.are_shown)
+        ∙ sym (fold-append with_expression [] stay made))
+
+-- ---- a module
+
+module _ (settings : Settings) (m : Module) (standing : List Stored) where
+  -- what it comes to is said by its statements as they are made ready, and by what names stand for
+  same_outcome : (statements : List Checked) (actions : List CheckedStatement) (ready : Compiled) (names : Meanings) → statements ≡ m.statements → actions ≡ m.actions →
+      ready ≡ compiled settings.max_expand settings.max_repeat actions → names ≡ of_stored standing → module_outcome settings m standing ≡ outcome_by settings statements ready names
+  same_outcome statements actions ready names its_statements its_actions is_ready are =
+      ap (λ s. outcome_by settings s (compiled settings.max_expand settings.max_repeat m.actions) (of_stored standing)) (sym its_statements)
+      ∙ ap (λ r. outcome_by settings statements r (of_stored standing)) (sym (is_ready ∙ ap (compiled settings.max_expand settings.max_repeat) its_actions))
+      ∙ ap (outcome_by settings statements ready) (sym are)
+
+  module _ (statements : List Checked) (actions : List CheckedStatement) (ready : Compiled) (names : Meanings) (its_statements : statements ≡ m.statements) (its_actions : actions ≡ m.actions)
+      (is_ready : ready ≡ compiled settings.max_expand settings.max_repeat actions) (are : names ≡ of_stored standing) where
+    same : module_outcome settings m standing ≡ outcome_by settings statements ready names
+    same = same_outcome statements actions ready names its_statements its_actions is_ready are
+
+    -- what stands after it
+    pub all_carried : (made after kept : List Stored) → outcome_by settings statements ready names ≡ standing_after statements names.stored (Ok made) → kept ≡ names.stored →
+        Ok after ≡ standing_after statements kept (Ok made) → module_outcome settings m standing ≡ Ok after
+    all_carried made after kept carried keeps stands =
+        same ∙ carried ∙ ap (λ es. standing_after statements es (Ok made)) (sym keeps) ∙ sym stands

@@ -1,5 +1,5 @@
 -- Collecting a list as it comes.
-use Rattle.std.proofs.Common.{◌≡◌, ◌+◌, ℕ, true, false, List, [], ◌∷◌, ◌++◌, length, Option, Some, None, Result, Ok, Err, refl, sym, subst, ap, ◌∙◌, append_assoc, arith}
+use Rattle.std.proofs.Common.{◌≡◌, ◌+◌, ◌<◌, ℕ, List, [], ◌∷◌, ◌++◌, length, Option, Some, None, Result, Ok, Err, refl, sym, subst, ap, ◌∙◌, append_assoc, arith}
 use Rattle.std.specs.Vec.Iter.{into_iter_items, into_iter_len}
 use Rattle.std.specs.declared.vec.IntoIter.{IntoIter}
 use Rattle.std.proofs.lemmas.List.{append-nil, length-append, nil_from_length}
@@ -10,24 +10,17 @@ use Rattle.form_collect.specs.Collector.{IsCollectionOf}
 use Rattle.form_collect.specs.declared.collector.CollectError.{CollectError}
 use Rattle.form_collect.specs.declared.collector.CollectError.TheVariants as collects
 use Rattle.form_collect.specs.declared.collector.Collector.{Collector}
-use Rattle.form_expand.specs.Listing.{Listing, nothing, refusal, before, followed, followed_at}
+use Rattle.form_expand.specs.Listing.{Listing, nothing, refusal, before, followed, followed_at, single}
 use Rattle.form_expand.specs.Next as next
 use Rattle.form_expand.specs.declared.error.ExpandError.{ExpandError}
 use Rattle.form_expand.specs.declared.error.ExpandError.TheVariants as expands
-use Rattle.form_term.specs.Term.{is_nil}
-use Rattle.form_check.specs.declared.checked.Rewriting.{Rewriting}
-use Rattle.form_flow.specs.Parts.{AreParts}
-use Rattle.form_flow.specs.Rewriting.{Part, outputs, through, through_each}
 use Rattle.form_module.specs.Answers.{IsAdded, IsRefused, of_collect, of_expand}
 use Rattle.form_module.specs.Batches.{IsBatch, behind}
 use Rattle.form_module.specs.declared.inputs.Batch.{Batch}
 use Rattle.form_module.specs.declared.inputs.BatchEnd.TheVariants as ends
-use Rattle.form_module.specs.Module.{collected_list, made_of, unless_ended, or_overflow}
+use Rattle.form_module.specs.Module.{collected_list, or_overflow, through, through_each, unless_ended}
 use Rattle.form_module.specs.declared.result_error.ResultError.{ResultError}
 use Rattle.form_module.specs.declared.result_error.ResultError.TheVariants as results
-
-not_true : false ≡ true → ⊥
-not_true e = cc
 
 -- ---- lists in a row
 
@@ -203,15 +196,21 @@ pub ended : (start old new : Listing) (collector : Collector) (e : ExpandError) 
 ended start old new collector (expands.Refused cause) g ends = refused start old collector cause g (ap (λ (l : Listing). l.end) ends)
 ended start old new collector expands.Memory g ends = tt
 
-singles : (max : ℕ) (ms : List Monomial) (end : Option Cause) → through_each (made_of max []) ms end ≡ record { terms = ms; end = end }
-unfolding through_each followed_at
-singles max [] end = refl
-singles max (m ∷ ms) end = ap (λ (l : Listing). record { terms = m ∷ l.terms; end = l.end }) (singles max ms end)
+-- a list without its first term is shorter
+pub fewer : (old new : Listing) (m : Monomial) → old ≡ before m new → length new.terms < length old.terms
+fewer old new m gives = let e : length old.terms ≡ length (m ∷ new.terms) = ap (λ (l : Listing). length l.terms) gives in omega (arith, e)
 
-pub as_they_are : (max : ℕ) (groups : List (List Rewriting)) (pss : List (List Part)) (l : Listing) → is_nil groups ≡ true → AreParts groups pss → l ≡ through (made_of max pss) l
-as_they_are max [] [] l none are = sym (singles max l.terms l.end)
-as_they_are max [] (ps ∷ pss) l none are = absurd are
-as_they_are max (g ∷ gs) pss l none are = absurd (not_true none)
+-- what each term is left by leaves a list as it is
+module _ (go : Monomial → Listing) (leaves : (m : Monomial) → go m ≡ single m) where
+  singles : (ms : List Monomial) (end : Option Cause) → through_each go ms end ≡ record { terms = ms; end = end }
+  unfolding through_each followed_at
+  singles [] end = refl
+  singles (m ∷ ms) end =
+      ap (λ (l : Listing). followed l (through_each go ms end)) (leaves m)
+      ∙ ap (λ (l : Listing). record { terms = m ∷ l.terms; end = l.end }) (singles ms end)
+
+  pub as_they_are : (l : Listing) → l ≡ through go l
+  as_they_are l = sym (singles l.terms l.end)
 
 -- ---- a batch of inputs
 
@@ -238,6 +237,15 @@ module _ (go : Monomial → Listing) (start old new : Listing) (b : Batch) (coll
       → IsRefused (of_expand error) (collected_list start)
   batch_failed error e added = unfinished go start is.left new more error (batch_added added) (rw e at is.ends)
 
+-- where there may be more, fewer are left
+pub batch_fewer : (old new : Listing) (b : Batch) → IsBatch b old new → b.end ≡ ends.More → length new.terms < length old.terms
+batch_fewer old new b is e =
+    let some : 0 < length b.items.items = rw e at is.some in
+    let left : is.left ≡ new = rw e at is.ends in
+    let whole : length old.terms ≡ length b.items.items + length new.terms =
+    ap (λ (l : Listing). length l.terms) is.whole ∙ length-append b.items.items is.left.terms ∙ ap (λ (l : Listing). length b.items.items + length l.terms) left in
+    omega (arith, some, whole)
+
 -- inputs that were read, one more, and the last
 pub read_more : (start old new : Listing) (items now : List Monomial) (m : Monomial) → start ≡ behind items old → old ≡ before m new → now ≡ items ++ m ∷ [] → start ≡ behind now new
 read_more start old new items now m so_far gives put =
@@ -249,13 +257,6 @@ one_longer items now m n many put = ap length put ∙ length-append items (m ∷
 
 -- ---- what is made of one input
 
--- the statements' outputs
-pub by_statements : (max : ℕ) (groups : List (List Rewriting)) (pss : List (List Part)) (m : Monomial) → is_nil groups ≡ false → AreParts groups pss →
-    made_of max pss m ≡ outputs max pss m
-by_statements max [] pss m some are = absurd (not_true (sym some))
-by_statements max (g ∷ gs) [] m some are = absurd are
-by_statements max (g ∷ gs) (ps ∷ pss) m some are = refl
-
-pub by_outputs : (max : ℕ) (groups : List (List Rewriting)) (pss : List (List Part)) (m : Monomial) (left : Listing) (old new : Collector) (r : Result Unit ResultError) →
-    is_nil groups ≡ false → AreParts groups pss → left ≡ outputs max pss m → IsAdded left old new r → IsAdded (made_of max pss m) old new r
-by_outputs max groups pss m left old new r some are is added = subst (λ l. IsAdded l old new r) (is ∙ sym (by_statements max groups pss m some are)) added
+-- the statements' outputs, as they are taken
+pub by_outputs : (made left : Listing) (old new : Collector) (r : Result Unit ResultError) → left ≡ made → IsAdded left old new r → IsAdded made old new r
+by_outputs made left old new r is added = subst (λ l. IsAdded l old new r) is added

@@ -1,7 +1,13 @@
 pub mod Added
+pub mod Becoming
 pub mod Carried
 pub mod Collected
-pub mod Outcomes
+pub mod Fitting
+pub mod LeftOut
+pub mod Passing
 pub mod Placed
+pub mod Recordable
+pub mod Reported
+pub mod Settling
+pub mod Sound
 pub mod Stays
-pub mod Trees

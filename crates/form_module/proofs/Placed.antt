@@ -1,5 +1,5 @@
 -- The entries of a map with one more stand for their list with one more.
-use Rattle.std.proofs.Common.{◌≡◌, ℕ, ◌+◌, ◌<◌, Bool, true, false, not, ◌&&◌, if◌then◌else◌, List, [], ◌∷◌, length, map, take, fold, get_or, Option, Some, None, refl, sym, ap, ◌∙◌}
+use Rattle.std.proofs.Common.{◌≡◌, ℕ, ◌+◌, ◌<◌, Bool, true, false, not, if◌then◌else◌, List, [], ◌∷◌, length, map, take, fold, get_or, Option, Some, None, refl, sym, ap, ◌∙◌}
 use Rattle.std.specs.Prelude.{slice_get}
 use Rattle.std.specs.List.{list_any}
 use Rattle.std.specs.Ordering.{nat_cmp, match_ordering}
@@ -10,14 +10,14 @@ use Rattle.std.proofs.lemmas.List.{take_more}
 use Rattle.std.proofs.lemmas.List.Sums.{fold-append}
 use Rattle.std.proofs.lemmas.Option.{slice_get-get_or}
 use Rattle.form_check.specs.declared.checked.Checked.{Checked}
-use Rattle.form_check.specs.declared.checked.Checked.TheVariants.{Drop, Skip, Local, Rewrite, Print}
+use Rattle.form_check.specs.declared.checked.Checked.TheVariants.{Drop, Skip, Local, Print}
 use Rattle.form_term.specs.declared.monomial.Monomial.{Monomial}
 use Rattle.form_expand.specs.declared.stored.Stored.{Stored}
 use Rattle.form_module.specs.Kept.{as_stored}
 use Rattle.form_module.specs.Module.{with_expression}
 use Rattle.form_module.specs.Places.{work_at, right_side_of, with_place, with_standing}
 use Rattle.form_module.specs.Sets.{has, is_held}
-use Rattle.form_module.specs.Works.{Work, and_definition, and_standing, goes_through, has_statements, with_work, works_of}
+use Rattle.form_module.specs.Works.{Work, and_definition, and_standing, goes_through, with_work, works_of}
 use Rattle.form_module.specs.declared.expression_set.ExpressionSet.{ExpressionSet}
 use Rattle.form_module.proofs.Stays.{going}
 
@@ -52,7 +52,6 @@ module _ (s : List Checked) where
   placed entries place (Skip which) here = refl
   placed entries place (Local id right) here =
       put entries id (Some place) ∙ ap (λ o. with_work (map (work_at s) entries) (record { expression = id; right_side = Some (right_side_of o) })) here
-  placed entries place (Rewrite is_also r) here = refl
   placed entries place (Print which) here = refl
 
   -- one statement further
@@ -85,12 +84,10 @@ module _ (s : List Checked) where
       ∙ sym (ap (fold (and_standing s) first) (take_more all place e below) ∙ fold-append (and_standing s) first (take place all) (get_or all place e ∷ []))
 
   -- all that is carried out
-  pub all_works : (standing : List Stored) (none some all : List (ℕ × Option ℕ)) (held : ExpressionSet) (rewrites : Bool) → rewrites ≡ has_statements s →
-      ((e : ℕ) → has held e ≡ list_any (is_held e) s) → none ≡ [] →
-      ((t : List Checked) → ((e : ℕ) → goes_through t e ≡ (rewrites && not (has held e))) → map (work_at t) some ≡ fold (and_standing t) (map (work_at t) none) standing) →
+  pub all_works : (standing : List Stored) (none some all : List (ℕ × Option ℕ)) (held : ExpressionSet) → ((e : ℕ) → has held e ≡ list_any (is_held e) s) → none ≡ [] →
+      ((t : List Checked) → ((e : ℕ) → goes_through t e ≡ not (has held e)) → map (work_at t) some ≡ fold (and_standing t) (map (work_at t) none) standing) →
       map (work_at s) all ≡ fold and_definition (map (work_at s) some) s → map (work_at s) all ≡ works_of s standing
-  all_works standing none some all held rewrites any are empty stands defined =
+  all_works standing none some all held are empty stands defined =
       defined
       ∙ ap (λ ws. fold and_definition ws s)
-      (stands s (λ e. going s held are e ∙ ap (λ b. b && not (has held e)) (sym any))
-      ∙ ap (λ entries. fold (and_standing s) (map (work_at s) entries) standing) empty)
+      (stands s (going s held are) ∙ ap (λ entries. fold (and_standing s) (map (work_at s) entries) standing) empty)

@@ -9,7 +9,7 @@ use Rattle.form_module.specs.declared.expression_set.ExpressionSet.{ExpressionSe
 use Rattle.form_module.specs.Kept.{is_kept}
 use Rattle.form_module.specs.Module.{stays, with_expression}
 use Rattle.form_module.specs.Sets.{has, is_change, is_held}
-use Rattle.form_module.specs.Works.{goes_through, has_statements, is_skip, skips}
+use Rattle.form_module.specs.Works.{goes_through, is_skip, skips}
 
 either : (a b c d : Bool) → ((a || b) || (c || d)) ≡ ((a || c) || (b || d))
 either true b c d = refl
@@ -29,12 +29,14 @@ same_filter : {X : Type 0} (p q : X → Bool) → ((x : X) → p x ≡ q x) → 
 same_filter p q same [] = refl
 same_filter p q same (x ∷ xs) = ap (λ b. cond b (x ∷ filter p xs) (filter p xs)) (same x) ∙ ap (λ ys. cond (q x) (x ∷ ys) ys) (same_filter p q same xs)
 
--- whether an expression goes through, by those that are dropped or skipped
+-- whether an expression goes through, by those that are dropped, defined or skipped
 pub going : (statements : List Checked) (held : ExpressionSet) → ((e : ℕ) → has held e ≡ list_any (is_held e) statements) →
-    (e : ℕ) → goes_through statements e ≡ (has_statements statements && not (has held e))
+    (e : ℕ) → goes_through statements e ≡ not (has held e)
 going statements held are e =
-    ap (λ b. has_statements statements && b)
-    (sym (ap not (are e ∙ any_either (is_drop e) (is_skip e) statements) ∙ neither (drops statements e) (skips statements e)))
+    sym
+    (ap not (are e ∙ any_either (is_change e) (is_skip e) statements ∙ ap (λ b. b || skips statements e) (any_either (is_drop e) (is_definition e) statements))
+    ∙ neither (drops statements e || defines statements e) (skips statements e)
+    ∙ ap (λ b. b && not (skips statements e)) (neither (drops statements e) (defines statements e)))
 
 -- what isn't changed stays
 kept : (statements : List Checked) (changed : ExpressionSet) (standing : List Stored) → ((e : ℕ) → has changed e ≡ list_any (is_change e) statements) →

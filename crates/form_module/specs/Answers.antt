@@ -15,13 +15,10 @@ use Rattle.form_check.specs.declared.checked.Checked.{Checked}
 use Rattle.form_expand.specs.declared.stored.Stored.{Stored}
 use Rattle.form_expand.specs.Listing.{Listing}
 use Rattle.form_expand.specs.Meanings.{Meanings}
-use Rattle.form_flow.specs.Groups.{groups_of}
-use Rattle.form_flow.specs.Parts.{AreParts}
-use Rattle.form_flow.specs.Rewriting.{Part}
-use Rattle.form_module.specs.Module.{AreTrees, Refusal, Worked, results}
-use Rattle.form_module.specs.Works.{works_of}
-use Rattle.form_module.specs.declared.error.ModuleError as module_error
-use Rattle.form_module.specs.declared.error.ModuleError.TheVariants as module_errors
+use Rattle.form_flow.specs.Statement.{Compiled}
+use Rattle.form_module.specs.Module.{outcome_by, standing_after}
+use Rattle.form_module.specs.declared.carry_error.CarryError as carry_error
+use Rattle.form_module.specs.declared.carry_error.CarryError.TheVariants as carry_errors
 use Rattle.form_module.specs.declared.result_error.ResultError.{ResultError}
 use Rattle.form_module.specs.declared.result_error.ResultError.TheVariants.{Refused, Memory}
 
@@ -30,9 +27,9 @@ of_expand (expands.Refused cause) = Refused cause
 of_expand expands.Memory = Memory
 
 -- the error of a module at an expression
-abbrev pub at_expression : ℕ → ResultError → module_error.ModuleError
-at_expression expression (Refused cause) = module_errors.Refused cause expression
-at_expression expression Memory = module_errors.Memory
+abbrev pub at_expression : ℕ → ResultError → carry_error.CarryError
+at_expression expression (Refused cause) = carry_errors.Refused cause expression
+at_expression expression Memory = carry_errors.Memory
 
 abbrev pub of_collect : collect.CollectError → ResultError
 of_collect collects.Overflow = Refused Overflow
@@ -54,18 +51,11 @@ IsAdded l old new (Ok u) = (l.end ≡ None) × ((list : List Monomial) → IsCol
 IsAdded l old new (Err (Refused cause)) = l.end ≡ Some cause
 IsAdded l old new (Err Memory) = Unit {0}
 
--- What a module makes of what is carried out, by what names stand for at its start, and by the trees of its statements and
--- its right sides.
-pub record AreResults (settings : Settings) (statements : List Checked) (names : Meanings) (made : Result (List Stored) Refusal) : Type 0 where
-  pub parts : List (List Part)
-  pub are_parts : AreParts (groups_of statements) parts
-  pub works : List Worked
-  pub are_works : AreTrees (works_of statements names.stored) works
-  pub carried : results settings parts names works ≡ made
-
--- A module was carried out: its results, or the first refusal, unless memory ran out.
-abbrev pub AreCarriedOut : Settings → List Checked → Meanings → Result (Vec Stored Global) module_error.ModuleError → Type 0
-AreCarriedOut settings statements names (Ok made) = AreResults settings statements names (Ok made.items)
-AreCarriedOut settings statements names (Err (module_errors.Refused cause expression)) =
-    AreResults settings statements names (Err (record { cause = cause; expression = expression }))
-AreCarriedOut settings statements names (Err module_errors.Memory) = Unit {0}
+-- What is carried out was carried out: put among what stays, these results give what stands after the module; or it is
+-- refused, unless memory ran out.
+abbrev pub AreCarriedOut : Settings → List Checked → Compiled → Meanings → Result (Vec Stored Global) carry_error.CarryError → Type 0
+AreCarriedOut settings statements ready names (Ok made) =
+    outcome_by settings statements ready names ≡ standing_after statements names.stored (Ok made.items)
+AreCarriedOut settings statements ready names (Err (carry_errors.Refused cause expression)) =
+    outcome_by settings statements ready names ≡ Err (record { cause = cause; expression = expression })
+AreCarriedOut settings statements ready names (Err carry_errors.Memory) = Unit {0}

@@ -1,9 +1,12 @@
 pub mod Answers
 pub mod Batches
+pub mod Becoming
 pub mod Inputs
 pub mod Kept
 pub mod Module
 pub mod Places
 pub mod Printed
+pub mod Reporting
 pub mod Sets
+pub mod Settled
 pub mod Works

@@ -4,7 +4,7 @@ use Rattle.std.specs.Ordering.{nat_cmp}
 use Rattle.std.specs.BTreeMap.{insert_entry}
 use Rattle.form_tree.specs.declared.tree.Piece.{Piece}
 use Rattle.form_check.specs.declared.checked.Checked.{Checked}
-use Rattle.form_check.specs.declared.checked.Checked.TheVariants.{Drop, Skip, Local, Rewrite, Print}
+use Rattle.form_check.specs.declared.checked.Checked.TheVariants.{Drop, Skip, Local, Print}
 use Rattle.form_module.specs.Works.{Work}
 
 abbrev pub right_side_of : Option Checked → List Piece
@@ -12,14 +12,13 @@ right_side_of None = []
 right_side_of (Some (Drop which)) = []
 right_side_of (Some (Skip which)) = []
 right_side_of (Some (Local id right)) = right
-right_side_of (Some (Rewrite is_also r)) = []
 right_side_of (Some (Print which)) = []
 
 -- the right side of the definition that is the statement at a place
 abbrev pub right_side_at : List Checked → ℕ → List Piece
 right_side_at statements place = right_side_of (slice_get statements place)
 
--- the same where there is a place
+-- that of a place, where there is one
 abbrev pub right_side_by : List Checked → Option ℕ → Option (List Piece)
 right_side_by statements place = option_map (right_side_at statements) place
 
@@ -32,7 +31,6 @@ abbrev pub with_place : List (ℕ × Option ℕ) → ℕ → Checked → List (�
 with_place entries place (Drop which) = entries
 with_place entries place (Skip which) = entries
 with_place entries place (Local id right) = insert_entry nat_cmp entries id (Some place)
-with_place entries place (Rewrite is_also r) = entries
 with_place entries place (Print which) = entries
 
 -- and with an expression that stands, where it goes through

@@ -14,6 +14,6 @@ has set expression = set.has_all || contains nat_eq set.ids expression
 abbrev pub is_change : ℕ → Checked → Bool
 is_change expression statement = is_drop expression statement || is_definition expression statement
 
--- the statement keeps the expression from going through the others: it drops or skips it
+-- the statement keeps the expression from going through the others: it drops, defines or skips it
 abbrev pub is_held : ℕ → Checked → Bool
-is_held expression statement = is_drop expression statement || is_skip expression statement
+is_held expression statement = is_change expression statement || is_skip expression statement

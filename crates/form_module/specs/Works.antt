@@ -2,31 +2,28 @@
 use Rattle.std.specs.Prelude.{ℕ, Bool, false, not, ◌&&◌, if◌then◌else◌, List, [], ◌∷◌, fold, Option, Some, None}
 use Rattle.std.specs.List.{list_any}
 use Rattle.std.specs.Ordering.{nat_cmp, match_ordering}
-use Rattle.form_term.specs.Term.{is_nil}
 use Rattle.form_tree.specs.declared.tree.Piece.{Piece}
 use Rattle.form_expand.specs.declared.stored.Stored.{Stored}
 use Rattle.form_check.specs.declared.checked.Checked.{Checked}
-use Rattle.form_check.specs.declared.checked.Checked.TheVariants.{Drop, Skip, Local, Rewrite, Print}
-use Rattle.form_check.specs.Standing.{means, drops}
-use Rattle.form_flow.specs.Groups.{groups_of}
+use Rattle.form_check.specs.declared.checked.Checked.TheVariants.{Drop, Skip, Local, Print}
+use Rattle.form_check.specs.Standing.{means, defines, drops}
 
 abbrev pub is_skip : ℕ → Checked → Bool
 is_skip expression (Drop which) = false
 is_skip expression (Skip which) = means which expression
-is_skip expression (Local id tree) = false
-is_skip expression (Rewrite is_also r) = false
+is_skip expression (Local id right) = false
 is_skip expression (Print which) = false
 
 abbrev pub skips : List Checked → ℕ → Bool
 skips statements expression = list_any (is_skip expression) statements
 
--- a module has statements to carry out on terms
-abbrev pub has_statements : List Checked → Bool
-has_statements statements = not (is_nil (groups_of statements))
+-- the module neither drops an expression nor defines it anew
+abbrev pub is_left : List Checked → ℕ → Bool
+is_left statements expression = not (drops statements expression) && not (defines statements expression)
 
--- an expression that stands goes through them, unless it is dropped or skipped
+-- an expression that stands goes through the module's statements, unless it is dropped, defined anew or skipped
 abbrev pub goes_through : List Checked → ℕ → Bool
-goes_through statements expression = has_statements statements && (not (drops statements expression) && not (skips statements expression))
+goes_through statements expression = is_left statements expression && not (skips statements expression)
 
 -- an expression and its right side; none where it is carried out by the terms that it stands for
 pub record Work : Type 0 where
@@ -48,10 +45,9 @@ and_standing statements ws e =
 abbrev pub and_definition : List Work → Checked → List Work
 and_definition ws (Drop which) = ws
 and_definition ws (Skip which) = ws
-and_definition ws (Local id tree) = with_work ws (record { expression = id; right_side = Some tree })
-and_definition ws (Rewrite is_also r) = ws
+and_definition ws (Local id right) = with_work ws (record { expression = id; right_side = Some right })
 and_definition ws (Print which) = ws
 
--- What is carried out, in order: what goes through, and the definitions, of which one replaces what stood.
+-- What is carried out, in order: what goes through, and the definitions.
 abbrev pub works_of : List Checked → List Stored → List Work
 works_of statements standing = fold and_definition (fold (and_standing statements) [] standing) statements

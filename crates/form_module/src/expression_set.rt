@@ -63,8 +63,7 @@ impl ExpressionSet {
     {
         match statement {
             Checked::Print(which) => self.add_selected(which),
-            Checked::Drop(_) | Checked::Skip(_) | Checked::Local(_, _) | Checked::Rewrite(_, _) =>
-                Ok(()),
+            Checked::Drop(_) | Checked::Skip(_) | Checked::Local(_, _) => Ok(()),
         }
     }
 
@@ -75,28 +74,29 @@ impl ExpressionSet {
         match statement {
             Checked::Drop(which) => self.add_selected(which),
             Checked::Local(expression, _) => self.add(*expression),
-            Checked::Skip(_) | Checked::Rewrite(_, _) | Checked::Print(_) => Ok(()),
+            Checked::Skip(_) | Checked::Print(_) => Ok(()),
         }
     }
 
-    /// Adds what a statement drops or skips.
+    /// Adds what a statement drops, defines or skips.
     fn add_held(&mut self, statement: &Checked) -> Result<(), AllocError>
         ensures { OnOk result ((e : ℕ) → has self.new e ≡ (has self.old e || is_held e statement.now)) }
     {
         match statement {
             Checked::Drop(dropped) => self.add_selected(dropped),
             Checked::Skip(skipped) => self.add_selected(skipped),
-            Checked::Local(_, _) | Checked::Rewrite(_, _) | Checked::Print(_) => Ok(()),
+            Checked::Local(expression, _) => self.add(*expression),
+            Checked::Print(_) => Ok(()),
         }
     }
 }
 
 /// The expressions that a module prints, where they stand at its end.
 pub fn printed(alloc: Global, carried: &Module) -> Result<ExpressionSet, AllocError>
-    ensures { IfOk result (λ set. (e : ℕ) → has set e ≡ prints carried.now e) }
+    ensures { IfOk result (λ set. (e : ℕ) → has set e ≡ prints carried.now.statements e) }
 {
     let mut set = ExpressionSet::new(alloc);
-    for statement in carried.as_slice() {
+    for statement in carried.statements() {
         set.add_printed(statement)?;
     }
     Ok(set)
@@ -113,7 +113,7 @@ pub fn changed(alloc: Global, statements: &[Checked]) -> Result<ExpressionSet, A
     Ok(set)
 }
 
-/// The expressions that statements drop or skip.
+/// The expressions that statements drop, define or skip.
 pub fn held(alloc: Global, statements: &[Checked]) -> Result<ExpressionSet, AllocError>
     ensures { IfOk result (λ set. (e : ℕ) → has set e ≡ list_any (is_held e) statements.now) }
 {

@@ -1,20 +1,34 @@
 //! Laws of the definitions, each the contract of a function that does nothing.
 
-ghost use Rattle.std.specs.Prelude.{◌≡◌, List, Result};
+ghost use Rattle.std.specs.Prelude.{◌≡◌, ℕ, List, Ok};
+ghost use Rattle.std.specs.List.{AllByRecursion};
 ghost use Rattle.form_base.specs.declared.settings.Settings.{Settings};
-ghost use Rattle.form_check.specs.declared.checked.Checked.{Checked};
+ghost use Rattle.form_names.specs.Names.{Entry};
+ghost use Rattle.form_tree.specs.Placed.{places_of};
+ghost use Rattle.form_check.specs.Program.{Module};
+ghost use Rattle.form_check.specs.Sound.{IsModuleSound};
+ghost use Rattle.form_check.specs.Standing.{stands_after};
 ghost use Rattle.form_expand.specs.declared.stored.Stored.{Stored};
-ghost use Rattle.form_module.specs.Module.{HaveTrees, IsModuleOutcome, Refusal};
+ghost use Rattle.form_expand.specs.Sound.{IsRecordableStored};
+ghost use Rattle.form_module.specs.Becoming.{IsOutcomeOfEach, is_standing};
+ghost use Rattle.form_module.specs.Module.{module_outcome};
+ghost use Rattle.form_module.specs.Settled.{Ascend};
 
-/// A module whose right sides and patterns are those of the grammar has exactly one outcome.
-pub fn one_module_outcome()
-    ensures some { (settings : Settings) (statements : List Checked) (standing : List Stored) → HaveTrees statements →
-        (outcome : Result (List Stored) Refusal) × IsModuleOutcome settings statements standing outcome }
-    ensures one { (settings : Settings) (statements : List Checked) (standing : List Stored)
-        (outcome other : Result (List Stored) Refusal) →
-        IsModuleOutcome settings statements standing outcome →
-        IsModuleOutcome settings statements standing other → outcome ≡ other }
-{
-    form_tree::laws::one_tree();
-    form_tree::laws::one_pattern();
-}
+/// A module makes of each expression what becomes of it, where each stands once, in order; and so they stand at its end, each
+/// that it defines, and each that stood and isn't dropped.
+pub fn each_expression()
+    ensures becomes { (settings : Settings) (m : Module) (standing : List Stored) → Ascend standing →
+        IsOutcomeOfEach settings m standing (module_outcome settings m standing) }
+    ensures order { (settings : Settings) (m : Module) (standing after : List Stored) →
+        module_outcome settings m standing ≡ Ok after → Ascend after }
+    ensures standing { (settings : Settings) (m : Module) (standing after : List Stored) → Ascend standing →
+        module_outcome settings m standing ≡ Ok after → (e : ℕ) →
+        is_standing after e ≡ stands_after e (is_standing standing e) m }
+{}
+
+/// What stands at the end of a checked module can be recorded where what stands at its start can be.
+pub fn expressions_stay_recordable()
+    ensures { (names : List Entry) (earlier : List Module) (settings : Settings) (m : Module) (standing after : List Stored) →
+        IsModuleSound names earlier m → AllByRecursion (IsRecordableStored (places_of names)) standing →
+        module_outcome settings m standing ≡ Ok after → AllByRecursion (IsRecordableStored (places_of names)) after }
+{}

@@ -2,15 +2,18 @@
 //! each expression.
 #![tactic(auto)]
 
+mod carry_error;
 mod error;
 mod expression_set;
 mod inputs;
 pub mod laws;
 mod module;
+mod report;
 mod result;
 mod result_error;
+mod settled;
 mod works;
 
 pub use error::ModuleError;
 pub use expression_set::{ExpressionSet, printed};
-pub use module::run_module;
+pub use report::{Division, Report, run_module};

@@ -1,66 +1,79 @@
-ghost use Rattle.std.specs.Prelude.{◌≡◌, Ok, Err, IfOk, OnOk, ℕ, map, filter, fold};
+ghost use Rattle.std.specs.Prelude.{◌≡◌, Ok, Err, All, IfOk, OnOk, ℕ, map, filter, fold};
+ghost use Rattle.std.specs.Bool.{OnTrue};
 ghost use Rattle.form_base.specs.declared.cause.Cause.{Cause};
 ghost use Rattle.form_module.specs.Answers.{AreCarriedOut};
 ghost use Rattle.form_module.specs.Kept.{as_stored, is_kept};
-ghost use Rattle.form_module.specs.Module.{HaveTrees, IsModuleOutcome, standing_after, with_expression};
+ghost use Rattle.form_module.specs.Module.{HasRightSide, HaveTrees, module_outcome, standing_after, with_expression};
 ghost use Rattle.form_module.specs.Places.{work_at};
+ghost use Rattle.form_module.specs.Settled.{AreAtRest};
 ghost use Rattle.form_module.specs.Works.{works_of};
-ghost use Rattle.form_flow.specs.Groups.{groups_of};
 
-use crate::ModuleError;
+use crate::carry_error::CarryError;
 use crate::expression_set::{ExpressionSet, changed};
 use crate::result::result_of;
+use crate::settled::{are_at_rest, comes_out_alike};
 use crate::works::{inputs, works};
 use form_base::{Id, Settings};
 use form_check::{Checked, Module};
 use form_collect::Terms;
 use form_expand::{Standing, Stored};
 use form_flow::CompiledModule;
+use form_tree::laws::trees_are_built;
 use std::alloc::{AllocError, Global};
 use std::collections::BTreeMap;
 
-/// Carries out a module over the expressions that stand at its start, each with its terms in their order. Gives those
-/// that stand at its end, in the order of first definition; or the first refusal, in that order.
-pub fn run_module(
+/// What stands after a module that is carried out over the expressions that stand at its start.
+pub fn carry_out_module(
     alloc: Global,
     settings: &Settings,
     carried: &Module,
     standing: Vec<Stored>,
-) -> Result<Vec<Stored>, ModuleError>
+) -> Result<Vec<Stored>, CarryError>
     requires { HaveTrees carried.now }
     ensures carried { IfOk result (λ after.
-        IsModuleOutcome settings.now carried.now standing.items (Ok after.items)) }
-    ensures refused { (cause : Cause) (expression : ℕ) → result ≡ Err (ModuleError.Refused cause expression) →
-        IsModuleOutcome settings.now carried.now standing.items
-        (Err (record { cause = cause; expression = expression })) }
+        module_outcome settings.now carried.now standing.items ≡ Ok after.items) }
+    ensures refused { (cause : Cause) (expression : ℕ) → result ≡ Err (CarryError.Refused cause expression) →
+        module_outcome settings.now carried.now standing.items
+        ≡ Err (record { cause = cause; expression = expression }) }
 {
-    let statements = carried.as_slice();
-    let compiled = CompiledModule::new(alloc, settings.max_expand, statements)?;
-    let works = works(alloc, statements, !compiled.is_empty(), &standing)?;
+    let statements = carried.statements();
+    let limit = settings.max_expand;
+    let compiled = CompiledModule::new(alloc, limit, settings.max_repeat, carried.actions())?;
+    let works = works(alloc, statements, &standing)?;
+    let is_at_rest = are_at_rest(&compiled, limit, &standing);
     let standing = Standing::from_vec(standing);
-    let carried_out = carry_out(alloc, settings, statements, &compiled, &standing, works);
+    let carried_out = carry_out(
+        alloc, settings, statements, &compiled, is_at_rest, &standing, works,
+    );
     drop(compiled);
     let results = carried_out?;
     let after = put_all(alloc, statements, standing.into_vec(), results)?;
     Ok(after)
 }
 
-/// The results of what a module carries out.
+/// The results of what a module carries out, but for those that are as the expressions stand, where all is at rest.
 fn carry_out(
     alloc: Global,
     settings: &Settings,
     statements: &[Checked],
     compiled: &CompiledModule,
+    is_at_rest: bool,
     standing: &Standing,
     works: BTreeMap<Id, Option<usize>>,
-) -> Result<Vec<Stored>, ModuleError>
-    requires trees { HaveTrees statements.now }
-    requires compiled { compiled.now ≡ record { limit = settings.now.max_expand; groups = groups_of statements.now } }
+) -> Result<Vec<Stored>, CarryError>
+    requires trees { All HasRightSide statements.now }
+    requires limit { compiled.now.limits.terms ≡ settings.now.max_expand }
+    requires at_rest { OnTrue is_at_rest (AreAtRest compiled.now standing.now.stored) }
     requires works { map (work_at statements.now) works.entries ≡ works_of statements.now standing.now.stored }
-    ensures { AreCarriedOut settings.now statements.now standing.now result }
+    ensures { AreCarriedOut settings.now statements.now compiled.now standing.now result }
 {
+    trees_are_built();
+    let most = settings.max_terms;
     let mut results = Vec::new(alloc);
     for (expression, place) in works {
+        if comes_out_alike(is_at_rest, most, standing, expression, place) {
+            continue;
+        }
         let mut inputs = inputs(
             alloc,
             settings.max_expand,

@@ -1,11 +1,12 @@
-ghost use Rattle.std.specs.Prelude.{◌≡◌, List, None, false};
-ghost use Rattle.form_term.specs.Term.{is_nil};
-ghost use Rattle.form_flow.specs.Left.{groups_in, outputs_left};
-ghost use Rattle.form_flow.specs.Parts.{AreParts};
-ghost use Rattle.form_flow.specs.Rewriting.{Part, through};
+ghost use Rattle.std.specs.Prelude.{◌≡◌, None};
+ghost use Rattle.std.specs.Bool.{OnTrue};
+ghost use Rattle.form_expand.specs.Listing.{single};
+ghost use Rattle.form_flow.specs.Left.{outputs_left};
+ghost use Rattle.form_flow.specs.Statements.{outputs as outputs_of};
 ghost use Rattle.form_module.specs.Answers.{Gives, IsAdded};
 ghost use Rattle.form_module.specs.Inputs.{inputs_left};
-ghost use Rattle.form_module.specs.Module.{collected_list, made_of, result_of as result_meant};
+ghost use Rattle.form_module.specs.Module.{collected_list, result_of as result_meant, through};
+ghost use Rattle.form_term.specs.declared.monomial.Monomial.{Monomial as Output};
 
 use crate::inputs::{Batch, BatchEnd, Inputs, next_batch};
 use crate::result_error::ResultError;
@@ -22,10 +23,10 @@ pub fn result_of(
     statements: &CompiledModule,
     inputs: &mut Inputs,
 ) -> Result<Terms, ResultError>
-    ensures { (pss : List (List Part)) → AreParts statements.now.groups pss →
-        Gives (λ terms. terms) result (result_meant statements.now.limit settings.now.max_terms pss (inputs_left inputs.old)) }
+    requires { statements.now.limits.terms ≡ settings.now.max_expand }
+    ensures { Gives (λ terms. terms) result (result_meant settings.now.max_terms statements.now (inputs_left inputs.old)) }
 {
-    let terms = collect(alloc, statements, inputs)?;
+    let terms = collect(alloc, settings.max_expand, statements, inputs)?;
     if terms.as_slice().len() as u64 > settings.max_terms {
         return Err(ResultError::Refused(Cause::TermLimit));
     }
@@ -35,16 +36,28 @@ pub fn result_of(
 /// What the statements make of inputs comes to, where all come to their end.
 fn collect(
     alloc: Global,
+    limit: u64,
     statements: &CompiledModule,
     inputs: &mut Inputs,
 ) -> Result<Terms, ResultError>
-    ensures { (pss : List (List Part)) → AreParts statements.now.groups pss →
-        Gives (λ terms. terms) result (collected_list (through (made_of statements.now.limit pss) (inputs_left inputs.old))) }
+    requires { statements.now.limits.terms ≡ limit }
+    ensures { Gives (λ terms. terms) result (collected_list (through (outputs_of statements.now) (inputs_left inputs.old))) }
 {
-    if statements.is_empty() {
+    if pass_all(statements, limit) {
         return collect_inputs(alloc, inputs);
     }
     collect_outputs(alloc, statements, inputs)
+}
+
+/// Whether the statements surely leave each term as it is: there are none, and a term may have an output.
+pub fn pass_all(statements: &CompiledModule, limit: u64) -> bool
+    requires { statements.now.limits.terms ≡ limit }
+    ensures { OnTrue result ((m : Output) → outputs_of statements.now m ≡ single m) }
+{
+    if limit == 0 {
+        return false;
+    }
+    statements.is_empty()
 }
 
 /// What inputs come to as they are.
@@ -52,13 +65,10 @@ fn collect_inputs(alloc: Global, inputs: &mut Inputs) -> Result<Terms, ResultErr
     ensures { Gives (λ terms. terms) result (collected_list (inputs_left inputs.old)) }
 {
     let mut collector = Collector::new(alloc);
-    for _made in 0..u64::MAX {
-        match inputs.next(alloc)? {
-            Some(item) => collector.add(item)?,
-            None => return Ok(collector.into_terms()?),
-        }
+    while let Some(item) = inputs.next(alloc)? {
+        collector.add(item)?;
     }
-    Err(ResultError::Memory)
+    Ok(collector.into_terms()?)
 }
 
 /// What the statements make of inputs comes to. Inputs are read many at a time, so that what reads them and what carries
@@ -68,11 +78,10 @@ fn collect_outputs(
     statements: &CompiledModule,
     inputs: &mut Inputs,
 ) -> Result<Terms, ResultError>
-    ensures { (pss : List (List Part)) → is_nil statements.now.groups ≡ false → AreParts statements.now.groups pss →
-        Gives (λ terms. terms) result (collected_list (through (made_of statements.now.limit pss) (inputs_left inputs.old))) }
+    ensures { Gives (λ terms. terms) result (collected_list (through (outputs_of statements.now) (inputs_left inputs.old))) }
 {
     let mut collector = Collector::new(alloc);
-    for _made in 0..u64::MAX {
+    'batches: loop {
         let Batch { items, end } = next_batch(alloc, inputs)?;
         add_each(alloc, statements, items, &mut collector)?;
         match end {
@@ -81,7 +90,6 @@ fn collect_outputs(
             BatchEnd::Failed(error) => return Err(ResultError::from(error)),
         }
     }
-    Err(ResultError::Memory)
 }
 
 /// Adds what the statements make of each of these terms.
@@ -91,8 +99,7 @@ fn add_each(
     items: Vec<Monomial>,
     collector: &mut Collector,
 ) -> Result<(), ResultError>
-    ensures { (pss : List (List Part)) → is_nil statements.now.groups ≡ false → AreParts statements.now.groups pss →
-        IsAdded (through (made_of statements.now.limit pss) (record { terms = items.items; end = None })) collector.old collector.new result }
+    ensures { IsAdded (through (outputs_of statements.now) (record { terms = items.items; end = None })) collector.old collector.new result }
 {
     for item in items {
         add(alloc, statements, item, collector)?;
@@ -107,8 +114,7 @@ fn add(
     item: Monomial,
     collector: &mut Collector,
 ) -> Result<(), ResultError>
-    ensures { (pss : List (List Part)) → is_nil statements.now.groups ≡ false → AreParts statements.now.groups pss →
-        IsAdded (made_of statements.now.limit pss item) collector.old collector.new result }
+    ensures { IsAdded (outputs_of statements.now item) collector.old collector.new result }
 {
     add_all(alloc, &mut statements.outputs(alloc, item), collector)
 }
@@ -119,14 +125,10 @@ fn add_all(
     outputs: &mut Outputs,
     collector: &mut Collector,
 ) -> Result<(), ResultError>
-    ensures { (pss : List (List Part)) → AreParts (groups_in outputs.old) pss →
-        IsAdded (outputs_left outputs.old pss) collector.old collector.new result }
+    ensures { IsAdded (outputs_left outputs.old) collector.old collector.new result }
 {
-    for _made in 0..u64::MAX {
-        match outputs.next(alloc)? {
-            Some(item) => collector.add(item)?,
-            None => return Ok(()),
-        }
+    while let Some(item) = outputs.next(alloc)? {
+        collector.add(item)?;
     }
-    Err(ResultError::Memory)
+    Ok(())
 }

@@ -1,4 +1,4 @@
-use crate::ModuleError;
+use crate::carry_error::CarryError;
 use form_base::{Cause, Id};
 use form_collect::CollectError;
 use form_expand::ExpandError;
@@ -16,12 +16,12 @@ impl ResultError {
     ghost use Rattle.form_module.specs.Answers.{at_expression};
 
     /// Why the module isn't carried out, whose expression has no result.
-    pub fn at(self, expression: Id) -> ModuleError
+    pub fn at(self, expression: Id) -> CarryError
         ensures { result ≡ at_expression expression self }
     {
         match self {
-            ResultError::Refused(cause) => ModuleError::Refused(cause, expression),
-            ResultError::Memory => ModuleError::Memory,
+            ResultError::Refused(cause) => CarryError::Refused(cause, expression),
+            ResultError::Memory => CarryError::Memory,
         }
     }
 }

@@ -1,9 +1,8 @@
-ghost use Rattle.std.specs.Prelude.{◌≡◌, ◌&&◌, not, Some, List, IfOk, OnOk, ℕ, Option, fold, map};
-ghost use Rattle.form_module.specs.Inputs.{inputs_left};
-ghost use Rattle.form_module.specs.Module.{IsTreeOf, inputs as inputs_meant};
+ghost use Rattle.std.specs.Prelude.{◌≡◌, not, List, IfOk, OnOk, ℕ, Option, fold, map};
+ghost use Rattle.form_module.specs.Inputs.{IsTreeOf, inputs_left, inputs_of};
 ghost use Rattle.form_module.specs.Places.{right_side_at, right_side_by, with_place, with_standing, work_at};
 ghost use Rattle.form_module.specs.Sets.{has};
-ghost use Rattle.form_module.specs.Works.{and_definition, goes_through, has_statements, and_standing, works_of};
+ghost use Rattle.form_module.specs.Works.{and_definition, goes_through, and_standing, works_of};
 ghost use Rattle.form_tree.specs.Tree.{Sum};
 ghost use Rattle.form_check.specs.declared.checked.Checked.{Checked as AsChecked};
 
@@ -17,20 +16,18 @@ use std::alloc::{AllocError, Global};
 use std::collections::BTreeMap;
 
 /// What a module carries out, by expression: the place of its definition, none where the terms that it stands for go
-/// through the module's statements. `rewrites` says whether it has any that rewrite terms.
+/// through the module's statements.
 pub fn works(
     alloc: Global,
     statements: &[Checked],
-    rewrites: bool,
     standing: &[Stored],
 ) -> Result<BTreeMap<Id, Option<usize>>, AllocError>
-    requires { rewrites ≡ has_statements statements.now }
     ensures { IfOk result (λ works.
         map (work_at statements.now) works.entries ≡ works_of statements.now standing.now) }
 {
     let held = held(alloc, statements)?;
     let mut works = BTreeMap::new(alloc);
-    add_standing(&mut works, rewrites, &held, standing)?;
+    add_standing(&mut works, &held, standing)?;
     add_definitions(&mut works, statements)?;
     Ok(works)
 }
@@ -38,20 +35,15 @@ pub fn works(
 /// Adds the expressions that go through the statements.
 fn add_standing(
     works: &mut BTreeMap<Id, Option<usize>>,
-    rewrites: bool,
     held: &ExpressionSet,
     standing: &[Stored],
 ) -> Result<(), AllocError>
     ensures { OnOk result ((s : List AsChecked) →
-        ((e : ℕ) → goes_through s e ≡ (rewrites && not (has held.now e))) →
+        ((e : ℕ) → goes_through s e ≡ not (has held.now e)) →
         map (work_at s) works.new.entries ≡ fold (and_standing s) (map (work_at s) works.old.entries) standing.now) }
 {
     for one in standing {
-        note_standing(
-            works,
-            goes_through(rewrites, held, one.expression),
-            one.expression,
-        )?;
+        note_standing(works, goes_through(held, one.expression), one.expression)?;
     }
     Ok(())
 }
@@ -71,10 +63,10 @@ fn add_definitions(
 }
 
 /// Whether an expression that stands goes through the statements.
-fn goes_through(rewrites: bool, held: &ExpressionSet, expression: Id) -> bool
-    ensures { result ≡ (rewrites && not (has held.now expression)) }
+fn goes_through(held: &ExpressionSet, expression: Id) -> bool
+    ensures { result ≡ not (has held.now expression) }
 {
-    rewrites && !held.has(expression)
+    !held.has(expression)
 }
 
 fn note_standing(
@@ -114,7 +106,7 @@ pub fn inputs<'a>(
     place: Option<usize>,
 ) -> Inputs<'a>
     ensures { (tree : Option Sum) → IsTreeOf (right_side_by statements.now place) tree →
-        inputs_left result ≡ inputs_meant limit standing.now expression tree }
+        inputs_left result ≡ inputs_of limit standing.now expression tree }
 {
     match place {
         Some(place) => {

@@ -7,11 +7,11 @@ use Rattle.form_term.specs.TermLaws.{both_equal, numbers_equal}
 use Rattle.std.specs.List.{AllByRecursion}
 use Rattle.std.specs.List.Sorted.{IsStrictlySortedBy}
 use Rattle.std.specs.Ordering.{nat_cmp, ordering_then, ordering_reverse, match_ordering}
-use Rattle.std.specs.Cmp.{IsTotalOrder}
+use Rattle.std.specs.Cmp.{IsTotalOrder, nat_cmp_is}
 use Rattle.std.specs.declared.cmp.Ordering.{Ordering}
 use Rattle.std.specs.declared.cmp.Ordering.TheVariants.{Less, Equal, Greater}
 use Rattle.std.proofs.lemmas.Cmp.{nat_cmp_total, on_total, then_total}
-use Rattle.std.proofs.lemmas.Bool.{lt-ltb, ltb-true}
+use Rattle.std.proofs.lemmas.Bool.{lt-ltb, ltb-true, eqb-true, eq-eqb}
 use Rattle.form_term.specs.declared.power.DotPower.{DotPower}
 use Rattle.form_term.specs.Term.{pair_order}
 use Rattle.form_normal.specs.Lists.{joined_dots, before_others, times_dot, dots_product, exponent_at}
@@ -218,3 +218,80 @@ exponents_kept (d ∷ ds) p q = put (dots_product ds) ∙ ap (λ (z : ℤ). (if 
         step Less h rest = refl
         step Equal h rest = kept (nat_lt 0 (nat_abs (d.exponent +ℤ e.exponent))) refl h
         step Greater h rest = ap (λ (z : ℤ). (if e.left == p && e.right == q then e.exponent else pos 0) +ℤ z) rest ∙ swap (if e.left == p && e.right == q then e.exponent else pos 0) (if d.left == p && d.right == q then d.exponent else pos 0) (exponent_at es p q)
+
+-- Powers that rise by their pairs are told by their exponents.
+
+differ : (m n p q : ℕ) → ordering_then (nat_cmp p m) (nat_cmp q n) ≡ Less → (m == p && n == q) ≡ false
+differ m n p q h = step (m == p) (n == q) refl refl
+  where
+    step : (a b : Bool) → (m == p) ≡ a → (n == q) ≡ b → (m == p && n == q) ≡ false
+    step false b e f = rw e refl
+    step true false e f = rw (e, f) refl
+    step true true e f =
+        let left = nat_cmp_is p m Equal (sym (eqb-true m p e)) in
+        let right = nat_cmp_is q n Equal (sym (eqb-true n q f)) in
+        let tie : ordering_then (nat_cmp p m) (nat_cmp q n) ≡ Equal = ap (λ (o : Ordering). ordering_then o (nat_cmp q n)) (sym left) ∙ sym right in
+        let no : Less ≡ Equal = sym h ∙ tie in
+        absurd (cc)
+
+-- a pair before those of all these is absent
+exponent_absent : (p q : ℕ) (es : List DotPower) → AllByRecursion (λ (e : DotPower). ordering_then (nat_cmp p e.left) (nat_cmp q e.right) ≡ Less) es → exponent_at es p q ≡ pos 0
+exponent_absent p q [] h = refl
+exponent_absent p q (e ∷ es) h = rw (differ e.left e.right p q h.0, exponent_absent p q es h.1) refl
+
+plus_none : (x : ℤ) → x +ℤ pos 0 ≡ x
+plus_none x = omega (arith, ints)
+
+exponent_here : (d : DotPower) (ds : List DotPower) → AllByRecursion (λ e. pair_order d e ≡ Less) ds → exponent_at (d ∷ ds) d.left d.right ≡ d.exponent
+exponent_here d ds h = rw (eq-eqb d.left d.left refl, eq-eqb d.right d.right refl, exponent_absent d.left d.right ds h) (plus_none d.exponent)
+
+-- one whose pair is before all of the others can't be missing there
+not_missing : (d : DotPower) (ds es : List DotPower) → AllByRecursion (λ e. pair_order d e ≡ Less) ds → IsThere d → AllByRecursion (λ e. pair_order d e ≡ Less) es → exponent_at (d ∷ ds) d.left d.right ≡ exponent_at es d.left d.right → ⊥
+not_missing d ds es h there k same =
+    let none : d.exponent ≡ pos 0 = sym (exponent_here d ds h) ∙ same ∙ exponent_absent d.left d.right es k in
+    absurd (omega (arith, ap nat_abs none, there))
+
+dots_unique : (ds es : List DotPower) → IsStrictlySortedBy pair_order ds → IsStrictlySortedBy pair_order es → AllByRecursion IsThere ds → AllByRecursion IsThere es → ((p q : ℕ) → exponent_at ds p q ≡ exponent_at es p q) → ds ≡ es
+unfolding IsStrictlySortedBy
+dots_unique [] [] s t h k same = refl
+dots_unique [] (e ∷ es) s t h k same = absurd (not_missing e es [] t.0 k.0 tt (sym (same e.left e.right)))
+dots_unique (d ∷ ds) [] s t h k same = absurd (not_missing d ds [] s.0 h.0 tt (same d.left d.right))
+dots_unique (d ∷ ds) (e ∷ es) s t h k same = step (pair_order d e) refl (λ tails. dots_unique ds es s.1 t.1 h.1 k.1 tails)
+  where
+    cancel : (x y a b : ℤ) → x +ℤ a ≡ y +ℤ b → x ≡ y → a ≡ b
+    cancel x y a b f g = omega (arith, ints)
+
+    step : (o : Ordering) → pair_order d e ≡ o → (((p q : ℕ) → exponent_at ds p q ≡ exponent_at es p q) → ds ≡ es) → d ∷ ds ≡ e ∷ es
+    step Less f rest = absurd (not_missing d ds (e ∷ es) s.0 h.0 (f, all_map (λ z. pair_order e z ≡ Less) (λ z. pair_order d z ≡ Less) (λ z g. pairs_total.trans d e z f g) es t.0) (same d.left d.right))
+    step Greater f rest =
+        let back : pair_order e d ≡ Less = pairs_total.antisymm e d ∙ ap ordering_reverse f in
+        absurd (not_missing e es (d ∷ ds) t.0 k.0 (back, all_map (λ z. pair_order d z ≡ Less) (λ z. pair_order e z ≡ Less) (λ z g. pairs_total.trans e d z back g) ds s.0) (sym (same e.left e.right)))
+    step Equal f rest =
+        let pair = same_pair d e f in
+        let first : d.exponent ≡ e.exponent = sym (exponent_here d ds s.0) ∙ same d.left d.right ∙ ap (λ (p : ℕ). exponent_at (e ∷ es) p d.right) pair.0 ∙ ap (λ (q : ℕ). exponent_at (e ∷ es) e.left q) pair.1 ∙ exponent_here e es t.0 in
+        let head : d ≡ e = λ i. record { left = pair.0 i; right = pair.1 i; exponent = first i } in
+        let tail = rest (λ p q. cancel (if d.left == p && d.right == q then d.exponent else pos 0) (if e.left == p && e.right == q then e.exponent else pos 0) (exponent_at ds p q) (exponent_at es p q) (same p q) (ap (λ (x : DotPower). if x.left == p && x.right == q then x.exponent else pos 0) head)) in
+        λ i. head i ∷ tail i
+
+-- powers that stand in one product have its exponents, and others that have them are it
+pub dots_from : (ds es : List DotPower) → IsStrictlySortedBy pair_order ds → AllByRecursion IsThere ds → AllByRecursion IsThere es → ((p q : ℕ) → exponent_at ds p q ≡ exponent_at es p q) → ds ≡ dots_product es
+dots_from ds es rise h k same = dots_unique ds (dots_product es) rise (dots_rise es) h (dots_there es k) (λ p q. same p q ∙ sym (exponents_kept es p q))
+
+pub exponents_append : (ds es : List DotPower) (p q : ℕ) → exponent_at (ds ++ es) p q ≡ exponent_at ds p q +ℤ exponent_at es p q
+exponents_append [] es p q = before (exponent_at es p q)
+  where
+    before : (x : ℤ) → x ≡ pos 0 +ℤ x
+    before x = omega (arith, ints)
+exponents_append (d ∷ ds) es p q = group (if d.left == p && d.right == q then d.exponent else pos 0) (exponent_at (ds ++ es) p q) (exponent_at ds p q) (exponent_at es p q) (exponents_append ds es p q)
+  where
+    group : (x y a b : ℤ) → y ≡ a +ℤ b → x +ℤ y ≡ (x +ℤ a) +ℤ b
+    group x y a b e = omega (arith, ints)
+
+-- the order of factors doesn't matter
+pub dots_swapped : (ds es : List DotPower) → AllByRecursion IsThere ds → AllByRecursion IsThere es → dots_product (ds ++ es) ≡ dots_product (es ++ ds)
+dots_swapped ds es h k =
+    dots_from (dots_product (ds ++ es)) (es ++ ds) (dots_rise (ds ++ es)) (dots_there (ds ++ es) (all_append IsThere ds es h k)) (all_append IsThere es ds k h)
+    (λ p q. exponents_kept (ds ++ es) p q ∙ exponents_append ds es p q ∙ turn (exponent_at ds p q) (exponent_at es p q) ∙ sym (exponents_append es ds p q))
+  where
+    turn : (x y : ℤ) → x +ℤ y ≡ y +ℤ x
+    turn x y = omega (arith, ints)

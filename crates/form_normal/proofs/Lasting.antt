@@ -61,11 +61,11 @@ one_multiply f l =
 
 -- ---- terms with no deltas of two fixed indices
 
-either_false : (a b : Bool) → (a || b) ≡ false → (a ≡ false) × (b ≡ false)
+pub either_false : (a b : Bool) → (a || b) ≡ false → (a ≡ false) × (b ≡ false)
 either_false true b e = cc
 either_false false b e = (refl, e)
 
-no_zeros : (ds : List Delta) → list_any is_fixed ds ≡ false → list_any is_zero ds ≡ false
+pub no_zeros : (ds : List Delta) → list_any is_fixed ds ≡ false → list_any is_zero ds ≡ false
 no_zeros [] e = refl
 no_zeros (d ∷ ds) e =
     let both = either_false (is_fixed d) (list_any is_fixed ds) e in

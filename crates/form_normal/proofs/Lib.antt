@@ -1,10 +1,16 @@
+pub mod Alone
 pub mod Dots
 pub mod Functions
 pub mod Large
 pub mod Lasting
 pub mod Limits
+pub mod Named
 pub mod Order
 pub mod Others
 pub mod Parts
 pub mod Places
 pub mod Powers
+pub mod Recordable
+pub mod Sizes
+pub mod Swapped
+pub mod Words

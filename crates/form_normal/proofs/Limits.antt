@@ -25,3 +25,9 @@ IsDotInRange d = nat_abs d.exponent ≤ largest_exponent
 pub are_dots_in_range_from : (ds : List DotPower) → All IsDotInRange ds → are_dots_in_range ds ≡ true
 are_dots_in_range_from [] h = refl
 are_dots_in_range_from (d ∷ ds) h = rw (le-leb (nat_abs d.exponent) largest_exponent (All-head IsDotInRange d ds h)) (are_dots_in_range_from ds (All-tail IsDotInRange d ds h))
+
+pub each_dot_in_range : (ds : List DotPower) → are_dots_in_range ds ≡ true → All IsDotInRange ds
+each_dot_in_range [] e = All-nil IsDotInRange
+each_dot_in_range (d ∷ ds) e =
+    let both = and_parts (nat_le (nat_abs d.exponent) largest_exponent) (are_dots_in_range ds) e in
+    All-cons IsDotInRange d ds (leb-true (nat_abs d.exponent) largest_exponent both.0) (each_dot_in_range ds both.1)

@@ -1,15 +1,15 @@
 -- Lists in order.
-use Rattle.std.proofs.Common.{◌≡◌, ℕ, suc, ◌+◌, Bool, true, false, cond, List, [], ◌∷◌, ◌++◌, map, length, refl, ap, sym, ◌∙◌, arith, append-nil, append_assoc, ◌⊎◌, inl, inr}
+use Rattle.std.proofs.Common.{◌≡◌, ℕ, suc, ◌+◌, Bool, true, false, cond, List, [], ◌∷◌, ◌++◌, map, length, get_or, refl, ap, sym, ◌∙◌, arith, append-nil, append_assoc, ◌⊎◌, inl, inr}
 use Rattle.std.specs.Prelude.{sum}
 use Rattle.std.specs.List.{AllByRecursion, filter}
-use Rattle.std.specs.Ordering.{is_gt, ordering_reverse}
+use Rattle.std.specs.Ordering.{is_gt, is_lt, ordering_reverse}
 use Rattle.std.specs.Cmp.{IsTotalOrder}
 use Rattle.std.specs.declared.cmp.Ordering.{Ordering}
 use Rattle.std.specs.declared.cmp.Ordering.TheVariants.{Less, Equal, Greater}
-use Rattle.std.proofs.lemmas.Cmp.{upto}
+use Rattle.std.proofs.lemmas.Cmp.{upto, tied_itself}
 use Rattle.std.proofs.lemmas.Grind.{common_steps}
-use Rattle.std.specs.List.Sorted.{IsPermutation}
-use Rattle.std.proofs.lemmas.List.Sorted.{IsPermutation-refl, IsPermutation-sym, IsPermutation-cons, IsPermutation-trans, IsPermutation-middle}
+use Rattle.std.specs.List.Sorted.{IsPermutation, IsSorted}
+use Rattle.std.proofs.lemmas.List.Sorted.{IsPermutation-refl, IsPermutation-sym, IsPermutation-cons, IsPermutation-trans, IsPermutation-middle, IsPermutation-map, sum_by-IsPermutation}
 use Rattle.form_term.specs.Term.{RisesBy}
 use Rattle.form_normal.specs.Lists.{put_in, in_order}
 
@@ -210,3 +210,86 @@ rises_filter cmp p (x ∷ xs) h = step (p x) (rises_filter cmp p xs h.1)
     step : (b : Bool) → RisesBy cmp (filter p xs) → RisesBy cmp (cond b (x ∷ filter p xs) (filter p xs))
     step true rest = (all_filter (λ y. is_gt (cmp x y) ≡ false) p xs h.0, rest)
     step false rest = rest
+
+abbrev one_if : Bool → ℕ
+one_if true = 1
+one_if false = 0
+
+-- Lists that rise and have the same elements are one, where only an element itself compares equal with it.
+module _ {A : Type 0} (cmp : A → A → Ordering) (o : IsTotalOrder cmp) (exact : (x y : A) → cmp x y ≡ Equal → x ≡ y) where
+  -- 1 for an element that x is above
+  abbrev below : A → A → ℕ
+  below x z = one_if (is_gt (cmp x z))
+
+  none_below : (x : A) (zs : List A) → AllByRecursion (λ z. is_gt (cmp x z) ≡ false) zs → sum (map (below x) zs) ≡ 0
+  none_below x [] h = refl
+  none_below x (z ∷ zs) h =
+      let here : below x z ≡ 0 = ap one_if h.0 in
+      let rest = none_below x zs h.1 in
+      let first = sum_first (below x z) (map (below x) zs) in
+      omega (arith, here, rest, first)
+
+  first_above : (x y : A) (ys : List A) → sum (map (below x) (y ∷ ys)) ≡ 0 → is_gt (cmp x y) ≡ false
+  first_above x y ys h = step (is_gt (cmp x y)) refl (sum_first (below x y) (map (below x) ys))
+    where
+      step : (b : Bool) → is_gt (cmp x y) ≡ b → sum (below x y ∷ map (below x) ys) ≡ below x y + sum (map (below x) ys) → is_gt (cmp x y) ≡ false
+      step false e first = e
+      step true e first = let here : below x y ≡ 1 = ap one_if e in absurd (omega (arith, here, first, h))
+
+  tied : (x y : A) → is_gt (cmp x y) ≡ false → is_gt (cmp y x) ≡ false → cmp x y ≡ Equal
+  tied x y e f = step (cmp x y) refl (o.antisymm y x) e
+    where
+      step : (r : Ordering) → cmp x y ≡ r → cmp y x ≡ ordering_reverse r → is_gt r ≡ false → cmp x y ≡ Equal
+      step Less g h k = let there : is_gt (cmp y x) ≡ true = ap is_gt h in absurd (cc)
+      step Equal g h k = g
+      step Greater g h k = absurd (cc)
+
+  same_elements : (xs ys : List A) → RisesBy cmp xs → RisesBy cmp ys → ((f : A → ℕ) → sum (map f xs) ≡ sum (map f ys)) → xs ≡ ys
+  same_elements [] [] left right same = refl
+  same_elements [] (y ∷ ys) left right same = absurd (omega (arith, same (λ (z : A). 1), sum_first 1 (map (λ (z : A). 1) ys)))
+  same_elements (x ∷ xs) [] left right same = absurd (omega (arith, same (λ (z : A). 1), sum_first 1 (map (λ (z : A). 1) xs)))
+  same_elements (x ∷ xs) (y ∷ ys) left right same =
+      let xs_above = none_below x (x ∷ xs) (ap is_gt (tied_itself o x), left.0) in
+      let ys_above = none_below y (y ∷ ys) (ap is_gt (tied_itself o y), right.0) in
+      let e = first_above x y ys (sym (same (below x)) ∙ xs_above) in
+      let f = first_above y x xs (same (below y) ∙ ys_above) in
+      let first = exact x y (tied x y e f) in
+      let rest = same_elements xs ys left.1 right.1 (λ g. less g (sum_first (g x) (map g xs)) (sum_first (g y) (map g ys)) (ap g first) (same g)) in
+      λ i. first i ∷ rest i
+    where
+      less : (g : A → ℕ) → sum (g x ∷ map g xs) ≡ g x + sum (map g xs) → sum (g y ∷ map g ys) ≡ g y + sum (map g ys) → g x ≡ g y → sum (g x ∷ map g xs) ≡ sum (g y ∷ map g ys) → sum (map g xs) ≡ sum (map g ys)
+      less g a b c d = omega (arith, a, b, c, d)
+
+  not_below : (x y : A) → is_lt (cmp y x) ≡ false → is_gt (cmp x y) ≡ false
+  not_below x y e = step (cmp y x) (o.antisymm x y) e
+    where
+      step : (r : Ordering) → cmp x y ≡ ordering_reverse r → is_lt r ≡ false → is_gt (cmp x y) ≡ false
+      step Less g h = absurd (cc)
+      step Equal g h = ap is_gt g
+      step Greater g h = ap is_gt g
+
+  -- what was sorted rises
+  sorted_rises : (xs : List A) → IsSorted cmp xs → RisesBy cmp xs
+  sorted_rises [] h = tt
+  sorted_rises (x ∷ []) h = (tt, tt)
+  sorted_rises (x ∷ y ∷ ys) h =
+      let rest = sorted_rises (y ∷ ys) (λ k d low within. next k d (h (k + 1) d (omega arith) (omega (arith, within)))) in
+      (all_upto cmp o x y ys (not_below x y (h 0 x (omega arith) (omega arith))) rest.0, rest)
+    where
+      next : (k : ℕ) (d : A) → is_lt (cmp (get_or (x ∷ y ∷ ys) (k + 1 + 1) d) (get_or (x ∷ y ∷ ys) (k + 1) d)) ≡ false → is_lt (cmp (get_or (y ∷ ys) (k + 1) d) (get_or (y ∷ ys) k d)) ≡ false
+      next k d e =
+          let one : k + 1 ≡ suc k = omega arith in
+          let two : k + 1 + 1 ≡ suc (k + 1) = omega arith in
+          let here = ap (λ (n : ℕ). get_or (x ∷ y ∷ ys) n d) one in
+          let there = ap (λ (n : ℕ). get_or (x ∷ y ∷ ys) n d) two in
+          ap (λ (z : A). is_lt (cmp z (get_or (y ∷ ys) k d))) (sym there) ∙ ap (λ (z : A). is_lt (cmp (get_or (x ∷ y ∷ ys) (k + 1 + 1) d) z)) (sym here) ∙ e
+
+  -- the order in which elements come doesn't matter
+  pub in_order_alike : (xs ys : List A) → IsPermutation xs ys → in_order cmp xs ≡ in_order cmp ys
+  in_order_alike xs ys moved =
+      same_elements (in_order cmp xs) (in_order cmp ys) (in_order_rises cmp o xs) (in_order_rises cmp o ys)
+      (λ f. sum_in_order cmp f xs ∙ sym (sum_by-IsPermutation (λ (n : ℕ). n) (map f xs) (map f ys) (IsPermutation-map f xs ys moved)) ∙ sym (sum_in_order cmp f ys))
+
+  -- what was sorted is the list in order
+  pub sorted_is : (xs ys : List A) → IsPermutation xs ys → IsSorted cmp ys → ys ≡ in_order cmp xs
+  sorted_is xs ys moved sorted = sym (in_order_same cmp ys (sorted_rises ys sorted)) ∙ sym (in_order_alike xs ys moved)

@@ -1,3 +1,4 @@
 pub mod Factors
 pub mod Lists
 pub mod Product
+pub mod Recordable

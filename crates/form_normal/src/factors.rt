@@ -6,7 +6,7 @@ ghost use Rattle.form_base.specs.declared.cause.Cause.{Cause};
 ghost use Rattle.form_term.specs.Factor.{function_factor};
 ghost use Rattle.form_term.specs.Term.{Call, IsTerm, RisesBy, call_order, nothing, of_others, one, largest_exponent};
 ghost use Rattle.form_term.specs.Terms.{term};
-ghost use Rattle.form_normal.specs.Factors.{HasRoom, IsPlain, is_upto};
+ghost use Rattle.form_normal.specs.Factors.{HasRoom, HasRoomForWord, HasRoomForWords, IsPlain, IsWord, is_upto, words_put};
 ghost use Rattle.form_normal.specs.Lists.{in_order};
 ghost use Rattle.form_normal.specs.Product.{is_fixed as is_fixed_of, number_alone, power_alone, function_alone, word_alone, limited as limited_of, term_product, product_of, Multiplies, StandsAlone};
 
@@ -19,7 +19,7 @@ use std::alloc::{AllocError, Global};
 use std::cmp::Ordering;
 
 /// How deep a term may be.
-const LARGEST_DEPTH: usize = 64;
+pub(crate) const LARGEST_DEPTH: usize = 64;
 
 /// Multiplies a term with its coefficient by a factor. Answers false where the product is 0.
 pub fn multiply(
@@ -141,6 +141,9 @@ pub fn product_onto(
     if is_plain(&front.term) && is_plain(&factor.term) {
         return plain_onto(alloc, front, factor);
     }
+    if is_word(&factor.term) && has_room_for(&front.term, &factor.term) {
+        return word_onto(alloc, front, factor);
+    }
     product(alloc, &front, factor)
 }
 
@@ -181,6 +184,65 @@ fn function_onto(
     let Monomial { term, .. } = front;
     let term = term.with_function(alloc, place, own)?;
     Ok(Some(Monomial { coefficient, term }))
+}
+
+/// Whether a term is a product of non-commuting functions alone.
+fn is_word(term: &Term) -> bool
+    ensures is { OnTrue result (IsWord term.now) }
+    ensures none { result ≡ false → IsWord term.now → ⊥ }
+{
+    term.powers().is_empty()
+        && term.functions().is_empty()
+        && !term.is_imaginary()
+        && term.dots().is_empty()
+        && term.components().is_empty()
+        && term.deltas().is_empty()
+}
+
+/// Whether a term and such a one are within the limits together, where no delta of the term has two fixed indices.
+fn has_room_for(front: &Term, word: &Term) -> bool
+    ensures { IsTrue result ↔ HasRoomForWord front.now word.now }
+{
+    let _ = front.powers();
+    word.size() <= LARGEST_SIZE - front.size() && !has_fixed(front.deltas())
+}
+
+/// A term times non-commuting functions for which it has room.
+fn word_onto(
+    alloc: Global,
+    front: Monomial,
+    factor: &Monomial,
+) -> Result<Option<Monomial>, ProductError>
+    requires word { IsWord factor.now.term }
+    requires room { HasRoomForWord front.term factor.now.term }
+    ensures ok { IfOk result (λ m. product_of front factor.now ≡ Ok m) }
+    ensures refused { (cause : Cause) → result ≡ Err (ProductError.Refused cause) →
+        product_of front factor.now ≡ Err cause }
+{
+    front.laws();
+    factor.laws();
+    let Ok(coefficient) = front.coefficient.mul(factor.coefficient) else {
+        return Err(ProductError::Refused(Cause::Overflow));
+    };
+    let term = words_behind(alloc, front.term, factor.term.word())?;
+    Ok(Some(Monomial { coefficient, term }))
+}
+
+/// A term with copies of these behind its own non-commuting functions.
+fn words_behind(alloc: Global, term: Term, words: &[Call]) -> Result<Term, AllocError>
+    requires lawful { IsTerm term }
+    requires room { HasRoomForWords term words.now }
+    ensures { IfOk result (λ made. made ≡ words_put words.now term) }
+{
+    let mut made = term;
+    let mut rest = words;
+    while let Some((call, others)) = rest.split_first() {
+        let own = call.clone()?;
+        let next = made.with_word(alloc, own)?;
+        made = next;
+        rest = others;
+    }
+    Ok(made)
 }
 
 fn plain_onto(

@@ -1,9 +1,11 @@
 //! Laws of the definitions, each the contract of a function that does nothing.
 
-ghost use Rattle.std.specs.Prelude.{◌≡◌, ◌≤◌, ◌<◌, ℕ, List, [], ◌∷◌, Some, Ok, nat_abs};
+ghost use Rattle.std.specs.Prelude.{◌≡◌, ◌≤◌, ◌<◌, ℕ, List, [], ◌∷◌, Some, Ok, All, nat_abs};
+ghost use Rattle.std.specs.List.{AllByRecursion};
 ghost use Rattle.std.specs.List.Sorted.{IsPermutation};
 ghost use Rattle.form_frac.specs.Fraction.{Fraction, IsLowest};
 ghost use Rattle.form_term.specs.Monomial.{unit};
+ghost use Rattle.form_term.specs.Named.{Places, IsSummand};
 ghost use Rattle.form_term.specs.declared.monomial.Monomial.{Monomial};
 ghost use Rattle.form_term.specs.declared.power.Power.{Power};
 ghost use Rattle.form_term.specs.Term.{Term, Call, IsTerm, RisesBy, exponent_of, component_order, call_order, size_of_call, largest_exponent, largest_size, largest_depth};
@@ -11,7 +13,9 @@ ghost use Rattle.form_term.specs.Pieces.{deepest};
 ghost use Rattle.form_term.specs.Factor.{function_factor, non_commuting_factor};
 ghost use Rattle.form_term.specs.declared.index.Component.{Component};
 ghost use Rattle.form_term.specs.declared.power.DotPower.{DotPower};
+ghost use Rattle.form_normal.specs.Factors.{AreEachLawful};
 ghost use Rattle.form_normal.specs.Lists.{in_order, dots_product, exponent_at};
+ghost use Rattle.form_normal.specs.Recordable.{IsRecordable, IsFactor};
 ghost use Rattle.form_normal.specs.Product.{exponent_sum, symbols_product, term_product, product, product_of, number_alone, power_alone, IsTooLarge};
 
 /// The exponent of each symbol in a product is the sum of those in its factors, and only the product has these.
@@ -45,6 +49,29 @@ pub fn single_factors()
     ensures number { (f : Fraction) → IsLowest f → product_of unit (number_alone f) ≡ Ok (Some (number_alone f)) }
     ensures power { (p : Power) → nat_abs p.exponent ≤ largest_exponent →
         product_of unit (power_alone p) ≡ Ok (Some (power_alone p)) }
+{}
+
+/// What is made as a product is a term, and is its own product.
+pub fn products_are_their_own()
+    ensures each { (t : Term) → IsTerm t → AreEachLawful t.others }
+    ensures lawful { (factors : List Monomial) (m : Monomial) → All (λ x. AreEachLawful x.term.others) factors →
+        product factors ≡ Ok (Some m) → IsTerm m.term }
+    ensures own { (factors : List Monomial) (m : Monomial) → All (λ x. AreEachLawful x.term.others) factors →
+        product factors ≡ Ok (Some m) → product (m ∷ []) ≡ Ok (Some m) }
+{}
+
+/// What is made as a product of factors whose names stand at their places can be recorded, and terms of expressions are such
+/// factors.
+pub fn products_are_recordable()
+    ensures factors { (names : Places) (m : Monomial) → IsSummand names m → IsFactor names m }
+    ensures products { (names : Places) (factors : List Monomial) (m : Monomial) →
+        AllByRecursion (IsFactor names) factors → product factors ≡ Ok (Some m) → IsRecordable names m }
+{}
+
+/// Two factors may change places where one of them has no word.
+pub fn products_are_symmetric()
+    ensures { (left right : Monomial) → IsTerm left.term → IsTerm right.term → right.term.others.word ≡ [] →
+        product_of left right ≡ product_of right left }
 {}
 
 /// A function that is too large or too deep for a term is refused.

@@ -16,7 +16,7 @@ use form_term::{Call, Delta, DotPower, Index, Monomial, Others, Power, Term};
 use std::alloc::{AllocError, Global};
 
 /// The largest size of an exponent.
-const LARGEST_EXPONENT: u32 = 1_000_000_000;
+pub(crate) const LARGEST_EXPONENT: u32 = 1_000_000_000;
 /// The most factors that a term may have.
 pub(crate) const LARGEST_SIZE: usize = 4096;
 
@@ -74,7 +74,7 @@ fn has_square(left: &Term, right: &Term) -> bool
 }
 
 /// A coefficient with its sign turned, or as it is.
-fn turned(is_negative: bool, coefficient: Frac) -> Frac
+pub(crate) fn turned(is_negative: bool, coefficient: Frac) -> Frac
     ensures { result ≡ turned_of is_negative coefficient }
 {
     if is_negative {
@@ -220,7 +220,7 @@ fn open_deltas(alloc: Global, left: &[Delta], right: &[Delta]) -> Result<Vec<Del
 }
 
 /// Whether one of these deltas is 0.
-fn has_zero(deltas: &[Delta]) -> bool
+pub(crate) fn has_zero(deltas: &[Delta]) -> bool
     ensures { result ≡ list_any is_zero_of deltas.now }
 {
     deltas.iter().any(|delta| is_zero(delta))

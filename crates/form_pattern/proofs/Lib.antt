@@ -1,3 +1,4 @@
+pub mod FewOpen
 pub mod Joined
 pub mod KnownNames
 pub mod LawfulElements

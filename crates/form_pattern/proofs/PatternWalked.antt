@@ -450,9 +450,6 @@ module _ (names : List Entry) (stands : ℕ → Bool) (fields : List (List ℕ))
     put-alone s e is (Ok x) =
         vector-mark-passed l frames (put level (flat x)) fixed (pieces_of_sum s ++ written.EndOfCall ∷ rest) ∙ only-passed s e is frames (put level (flat x)) fixed rest
 
-    abbrev vector_raw : syntax.Argument → Result Raw Refusal
-    vector_raw a = trees.component_raw names l id (power_at rest) (syntax.argument a)
-
     expression-given : (s : syntax.Sum) (o : Option syntax.Entry) → alone s ≡ o
         → (walking.called_by names (in_a_product frames level fixed) (name_of l) (one_list (syntax.expression s)) (a_head.Vector id) >>= (λ next. W next (one_list (syntax.expression s))))
         ≡ (with_fixed fixed (vector_given (trees.only_end names l s o) >>= (λ x. Ok (x ∷ []))) >>= behind frames level rest)

@@ -191,6 +191,11 @@ at frames level place fixed = record { frames = frames; level = level; place = p
 abbrev pub moved : Reading → Place → Reading
 moved s place = at s.frames s.level place s.fixed
 
+-- how many calls are open in the argument without wildcards that is gone through
+abbrev pub open_at : Place → ℕ
+open_at (places.Fixed count) = count
+open_at _ = 0
+
 -- a factor more
 abbrev pub added : Reading → Place → Raw → Reading
 added s place raw = at s.frames (put s.level raw) place s.fixed

@@ -1,5 +1,5 @@
 //! Patterns over Ids: names, powers and numbers from the left, then equal factors joined.
-ghost use Rattle.std.specs.Prelude.{◌≡◌, ◌∷◌, [], option_copied, IfOk, OnOk, MatchOption};
+ghost use Rattle.std.specs.Prelude.{◌≡◌, ◌+◌, ◌<◌, ◌≤◌, ◌^◌, ◌∷◌, [], option_copied, IfOk, OnOk, MatchOption};
 ghost use Rattle.form_ast.specs.Lawful.{ArePattern};
 ghost use Rattle.form_right_side.specs.Marks.{stands_in};
 ghost use Rattle.form_pattern.specs.Pattern as definition;
@@ -398,13 +398,11 @@ fn in_fixed(
     piece: &Piece,
     rest: &[Piece],
 ) -> Result<Reading, CheckError>
+    requires { count + 1 < 2 ^ 64 }
     ensures { Gives (λ r. r) result (walking.in_fixed reading count piece.now rest.now) }
 {
     match piece {
-        Piece::Call(_, _) => match count.checked_add(1) {
-            Some(more) => Ok(moved(reading, Place::Fixed(more))),
-            None => Err(CheckError::Memory),
-        },
+        Piece::Call(_, _) => Ok(moved(reading, Place::Fixed(count + 1))),
         Piece::Comma => {
             if count == 0 {
                 return Ok(moved(reading, Place::Argument));
@@ -433,11 +431,8 @@ fn with_fixed(alloc: Global, reading: Reading, tree: Tree) -> Result<Reading, Al
     } = reading;
     let FixedArguments { mut trees } = fixed;
     let number = trees.len();
-    if number > u32::MAX as usize {
-        return Err(AllocError);
-    }
     trees.push(tree)?;
-    let argument = Pieces::single(alloc, PatternPiece::Fixed(number as u32))?;
+    let argument = Pieces::single(alloc, PatternPiece::Fixed(number))?;
     Ok(Reading {
         frames: with_argument(frames, argument)?,
         level,
@@ -540,7 +535,7 @@ fn with_field(
 ) -> Result<Reading, AllocError>
     ensures { IfOk result (λ r. r ≡ walking.with_field known.now.fields reading field.now) }
 {
-    let number = known.field(field.name.as_str())?;
+    let number = known.field_number(field.name.as_str());
     with_one(alloc, reading, PatternPiece::Field(number))
 }
 
@@ -603,8 +598,10 @@ fn take(
     piece: &Piece,
     rest: &[Piece],
 ) -> Result<Reading, CheckError>
-    requires { list.now ≡ piece.now ∷ rest.now }
-    ensures { Gives (λ r. r) result (walking.taken names.now (stands_in standing.now) known.now.fields reading piece.now rest.now) }
+    requires list { list.now ≡ piece.now ∷ rest.now }
+    requires room { walking.open_at reading.place + 1 < 2 ^ 64 }
+    ensures taken { Gives (λ r. r) result (walking.taken names.now (stands_in standing.now) known.now.fields reading piece.now rest.now) }
+    ensures few { IfOk result (λ r. walking.open_at r.place ≤ walking.open_at reading.place + 1) }
 {
     match reading.place {
         Place::Product => in_product(alloc, names, reading, piece, rest),
@@ -625,6 +622,7 @@ fn walked(
     reading: Reading,
     list: &[Piece],
 ) -> Result<Reading, CheckError>
+    requires { walking.open_at reading.place ≡ 0 }
     ensures { Gives (λ r. r) result (walking.walked names.now (stands_in standing.now) known.now.fields reading list.now) }
 {
     let mut reading = reading;

@@ -15,6 +15,7 @@ mod Quotes
 mod Reading
 mod Running
 mod Separated
+mod Shallow
 mod Stacks
 mod Stepping
 mod Stored

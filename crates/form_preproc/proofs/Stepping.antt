@@ -1,5 +1,6 @@
 -- What one step does, by what was asked for.
-use Rattle.std.proofs.Common.{◌≡◌, ◌≤◌, ◌<◌, ◌+◌, ◌-◌, ◌*◌, arith, ℕ, zero, suc, Bool, true, false, cond, List, [], ◌∷◌, drop, refl, sym, ap, ◌∙◌, subst, Option, Some, None, Result, Ok, Err, IfSome}
+use Rattle.std.proofs.Common.{◌≡◌, ◌⊎◌, inl, inr, eq-zero-or-pos, min, length, ◌≤◌, ◌<◌, ◌+◌, ◌-◌, ◌*◌, arith, ℕ, zero, suc, Bool, true, false, cond, List, [], ◌∷◌, drop, refl, sym, ap, ◌∙◌, subst, Option, Some, None, Result, Ok, Err, IfSome}
+use Rattle.std.proofs.lemmas.List.{drop_all}
 use Rattle.form_outside.specs.Texts.{Texts}
 use Rattle.form_preproc.proofs.Continuing.{over_goes, over_ends, over_stops, over_enters, line_goes, line_ends, line_stops, line_enters}
 use Rattle.form_preproc.specs.Block.{Line, key_in, is_closer, is_opening, to_end}
@@ -43,6 +44,14 @@ dropped_one zero [] = refl
 dropped_one zero (x ∷ xs) = refl
 dropped_one (suc n) [] = refl
 dropped_one (suc n) (x ∷ xs) = dropped_one n xs
+
+-- a place past the last one is as good as any other
+pub dropped_within : {A : Type 0} (n m last : ℕ) (xs : List A) → m ≡ min (n + 1) last → length xs ≤ last → drop m xs ≡ drop (n + 1) xs
+dropped_within {A} n m last xs is few = at (eq-zero-or-pos (n + 1 - last))
+  where
+    at : (n + 1 - last ≡ 0) ⊎ (0 < n + 1 - last) → drop m xs ≡ drop (n + 1) xs
+    at (inl below) = let same : m ≡ n + 1 = omega (arith, is, below) in ap (λ (k : ℕ). drop k xs) same
+    at (inr past) = drop_all m xs (omega (arith, is, few, past)) ∙ sym (drop_all (n + 1) xs (omega (arith, few, past)))
 
 pub behind_block : (line : Line) (rest lines : List Line) (close next : ℕ) → is_opening (key_in line) ≡ true → drop close lines ≡ to_end key_in 0 rest → next ≡ close + 1 → drop next lines ≡ behind line rest
 behind_block line rest lines close next opens at_end more =

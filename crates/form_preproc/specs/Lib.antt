@@ -20,6 +20,7 @@ pub mod PlainTexts
 pub mod Plainness
 pub mod Procedures
 pub mod Putting
+pub mod Shallow
 pub mod Sources
 pub mod Stepping
 pub mod Stops

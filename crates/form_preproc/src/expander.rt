@@ -1,11 +1,12 @@
 //! Lines that act, one after another, with those that are to act behind them.
 
-ghost use Rattle.std.specs.Prelude.{◌≡◌, ◌≢◌, ◌≤◌, ◌<◌, ◌+◌, ℕ, suc, List, [], ◌∷◌, length, drop, true, false, Ok, Err, OnOk, IfOk, IfErr, IfSome};
+ghost use Rattle.std.specs.Prelude.{◌≡◌, ◌≢◌, ◌≤◌, ◌<◌, ◌+◌, ◌^◌, ℕ, suc, List, [], ◌∷◌, length, drop, true, false, Ok, Err, OnOk, IfOk, IfErr, IfSome};
 ghost use Rattle.form_outside.specs.Faults.{HasRisen};
 ghost use Rattle.form_outside.specs.Texts.{Texts};
 ghost use Rattle.form_preproc.specs.Block as block;
 ghost use Rattle.form_preproc.specs.Expansion as expansion;
 ghost use Rattle.form_preproc.specs.Plainness.{AfterIsPlain, ExpanderIsPlain};
+ghost use Rattle.form_preproc.specs.Shallow.{AreShallow};
 ghost use Rattle.form_preproc.specs.Stepping.{depth_inside, depth_now, weight_of, left};
 ghost use Rattle.form_preproc.specs.Variables.{Heights, first_heights};
 
@@ -39,14 +40,12 @@ pub struct Expander {
 
 impl After {
     /// How many calls are open inside, where so many are outside.
-    fn depth_in(&self, depth: usize) -> Result<usize, AllocError>
-        ensures { IfOk result (λ inside. inside ≡ depth_inside self.now depth) }
+    fn depth_in(&self, depth: usize) -> usize
+        ensures { depth_inside self.now depth < 2 ^ 64 → result ≡ depth_inside self.now depth }
     {
         match self {
-            After::Branch | After::Turn(_) => Ok(depth),
-            After::Included | After::Fetched(_) | After::Called => depth
-                .checked_add(1)
-                .ok_or(AllocError),
+            After::Branch | After::Turn(_) => depth,
+            After::Included | After::Fetched(_) | After::Called => depth.saturating_add(1),
         }
     }
 }
@@ -98,18 +97,15 @@ impl Source {
     ghost use Rattle.form_preproc.specs.Sources.{lines_in};
 
     /// The place behind a line, or behind the block that it begins.
-    fn behind(&self, place: usize, line: &SourceLine) -> Result<usize, AllocError>
+    fn behind(&self, place: usize, line: &SourceLine) -> usize
         requires { place < length self.now.lines.items }
-        ensures { IfOk result (λ next. drop next (lines_in self.now)
-            ≡ expansion.behind (block.placed self.now.name self.now.number line.now.line) (drop (suc place) (lines_in self.now))) }
+        ensures { drop result (lines_in self.now)
+            ≡ expansion.behind (block.placed self.now.name self.now.number line.now.line) (drop (suc place) (lines_in self.now)) }
     {
         if !line.key().is_opening() {
-            return Ok(place + 1);
+            return place + 1;
         }
-        match self.close(place).checked_add(1) {
-            Some(next) => Ok(next),
-            None => Err(AllocError),
-        }
+        self.close(place).saturating_add(1)
     }
 }
 
@@ -124,6 +120,7 @@ impl Expander {
         ensures begun { IfOk result (λ x. (state_of x.machine ≡ expansion.begun file)
             × (running x.frames (calls_of x.machine) ≡ record { lines = lines_in source; after = expansion.branch; depth = 0 } ∷ [])) }
         ensures plain { IfOk result (λ x. ExpanderIsPlain x) }
+        ensures shallow { IfOk result (λ x. AreShallow x.frames) }
     {
         let machine = Machine::new(alloc, file)?;
         let source = Rc::new(alloc, source).map_err(AllocError::from)?;
@@ -139,6 +136,7 @@ impl Expander {
 
     /// Lets lines act until one ends the program, or until all have acted; answers whether one did.
     pub fn run<L: Library>(&mut self, alloc: Global, library: &mut L) -> Result<bool, ExpandError>
+        requires { AreShallow self.old.frames }
         ensures ran { IfSome (L.texts library.old) (λ texts. IsRun texts self.old result self.new) }
         ensures failed { result ≡ Err ExpandError.Library → HasRisen (L.faults library.old) (L.faults library.new) }
         ensures not_risen { result ≢ Err ExpandError.Library → L.faults library.new ≡ L.faults library.old }
@@ -168,16 +166,21 @@ impl Expander {
 
     /// Lets lines act first that a line asks for.
     fn push_entry(&mut self, entry: Entry) -> Result<(), AllocError>
+        requires { AreShallow self.old.frames }
         ensures { OnOk result (self.new ≡ record {
           machine = self.old.machine;
           frames = record { entry = entry; depth = depth_inside entry.after (depth_now self.old.frames) } ∷ self.old.frames;
         }) }
     {
-        let depth = entry.after.depth_in(self.depth())?;
-        self.frames.push(Frame { entry, depth })
+        let depth = entry.after.depth_in(self.depth());
+        self.frames.push(Frame { entry, depth })?;
+        // the number of frames fits, and so does a depth
+        let _ = self.frames.len();
+        Ok(())
     }
 
     fn follow(&mut self, action: Action) -> Result<Step, ExpandError>
+        requires { AreShallow self.old.frames }
         ensures { IsFollowed self.old action result self.new }
     {
         match action {
@@ -204,6 +207,8 @@ impl Expander {
         requires within { place < length source.now.value.lines.items }
         requires opens { block.is_closer line.now.key ≡ false }
         requires behind { drop entry.place (lines_in entry.source.value) ≡ expansion.behind (line_of source.now.value line.now) (behind_place source.now.value place) }
+        requires deep { depth ≤ suc (length self.old.frames) }
+        requires shallow { AreShallow self.old.frames }
         ensures stepped { IfSome (L.texts library.old) (λ texts. IsStepped texts
             (record { lines = line_of source.now.value line.now ∷ behind_place source.now.value place; after = after_of entry.after (first_heights (calls_of self.old.machine)); depth = depth }
             ∷ running self.old.frames (calls_behind entry.after (calls_of self.old.machine))) (state_of self.old.machine) result self.new) }
@@ -213,6 +218,7 @@ impl Expander {
         ensures never_falls { L.faults library.old ≤ L.faults library.new }
         ensures same_texts { L.texts library.new ≡ L.texts library.old }
         ensures plain { AfterIsPlain entry.after → ExpanderIsPlain self.old → OnOk result (ExpanderIsPlain self.new) }
+        ensures shallow { OnOk result (AreShallow self.new.frames) }
     {
         if let Err(_) = self.frames.push(Frame { entry, depth }) {
             return Err(ExpandError::Stopped(StopError::Memory));
@@ -225,12 +231,14 @@ impl Expander {
 
     /// Does what follows lines that have acted.
     fn resume(&mut self, alloc: Global, after: After) -> Result<Step, ExpandError>
+        requires { AreShallow self.old.frames }
         ensures stepped { (texts : Texts) (lines : List block.Line) (depth : ℕ) → expansion.is_over lines ≡ true → IsStepped texts
             (record { lines = lines; after = after_of after (first_heights (calls_of self.old.machine)); depth = depth }
             ∷ running self.old.frames (calls_behind after (calls_of self.old.machine))) (state_of self.old.machine) result self.new }
         ensures smaller { OnOk result (rank self.new < left self.old.machine.acted + weight_of after + weights self.old.frames) }
         ensures no_fault { result ≢ Err ExpandError.Library }
         ensures plain { AfterIsPlain after → ExpanderIsPlain self.old → OnOk result (ExpanderIsPlain self.new) }
+        ensures shallow { OnOk result (AreShallow self.new.frames) }
     {
         match self.machine.resume(alloc, after) {
             Ok(action) => self.follow(action),
@@ -240,6 +248,7 @@ impl Expander {
 
     /// Lets one line act, or does what follows lines that have acted.
     pub fn step<L: Library>(&mut self, alloc: Global, library: &mut L) -> Result<Step, ExpandError>
+        requires { AreShallow self.old.frames }
         ensures stepped { IfSome (L.texts library.old) (λ texts. IsStepped texts (running self.old.frames (calls_of self.old.machine)) (state_of self.old.machine) result self.new) }
         ensures smaller { result ≡ Ok Step.Goes → rank self.new < rank self.old }
         ensures failed { result ≡ Err ExpandError.Library → HasRisen (L.faults library.old) (L.faults library.new) }
@@ -247,6 +256,7 @@ impl Expander {
         ensures never_falls { L.faults library.old ≤ L.faults library.new }
         ensures same_texts { L.texts library.new ≡ L.texts library.old }
         ensures plain { ExpanderIsPlain self.old → OnOk result (ExpanderIsPlain self.new) }
+        ensures shallow { OnOk result (AreShallow self.new.frames) }
     {
         let Some(frame) = self.frames.pop() else {
             return Ok(Step::Over);
@@ -265,7 +275,7 @@ impl Expander {
         }
         let entry = Entry {
             source: source.clone()?,
-            place: source.behind(place, line)?,
+            place: source.behind(place, line),
             after,
         };
         self.act(alloc, library, entry, depth, &source, place, line)

@@ -7,6 +7,7 @@ ghost use Rattle.form_preproc.specs.Answer.{IsMeant, IsAnswer, IsRefusal, IsLong
 ghost use Rattle.form_preproc.specs.Block.{taken_up};
 ghost use Rattle.form_preproc.specs.Expansion.{AreExpanded, longest_text};
 ghost use Rattle.form_preproc.specs.Plainness.{HandedArePlain, ExpanderIsPlain};
+ghost use Rattle.form_preproc.specs.Shallow.{AreShallow};
 
 use crate::expander::Expander;
 use crate::handed::Handed;
@@ -79,6 +80,7 @@ fn begin(alloc: Global, file: &Name, bytes: &[u8]) -> Result<Expander, FileError
     requires { length bytes.now ≤ longest_text }
     ensures begun { IsBegun file.now bytes.now result }
     ensures plain { IfOk result (λ x. ExpanderIsPlain x) }
+    ensures shallow { IfOk result (λ x. AreShallow x.frames) }
 {
     match Source::take_up(alloc, Name::new(alloc, file.as_str())?, 0, bytes) {
         Ok(source) => Ok(Expander::new(alloc, Name::new(alloc, file.as_str())?, source)?),

@@ -60,7 +60,7 @@ impl Journal {
         ensures more { OnOk result (self.new.room ≡ self.old.room + 2) }
         ensures not_less { self.old.room ≤ self.new.room }
     {
-        let room = self.room.checked_add(2).ok_or(AllocError)?;
+        let room = self.room + 2;
         self.changes.reserve(room)?;
         self.room = room;
         Ok(())

@@ -1,19 +1,23 @@
 -- How often a match fits.
-use Rattle.std.proofs.Common.{◌≡◌, ℕ, zero, suc, ◌+◌, ◌*◌, ◌/◌, ◌<◌, ◌≤◌, ℤ, pos, negsuc, ◌*ℤ◌, neg_ℤ, nat_abs, true, false, not, ◌&&◌, ◌||◌, IsTrue, Option, Some, None, IfSome, inl, inr, List, [], ◌∷◌, drop, get_or, length, map, min, refl, ap, ap₂, subst, sym, ◌∙◌, arith}
+use Rattle.std.proofs.Common.{◌≡◌, ℕ, zero, suc, ◌+◌, ◌*◌, ◌/◌, ◌<◌, ◌≤◌, ℤ, pos, negsuc, ◌*ℤ◌, neg_ℤ, nat_abs, FitsSigned, All, Bool, cond, ◌==◌, true, false, not, ◌&&◌, ◌||◌, IsTrue, Option, Some, None, IfSome, inl, inr, List, [], ◌∷◌, drop, get_or, length, map, min, refl, ap, ap₂, subst, sym, ◌∙◌, arith}
 use Rattle.std.specs.Prelude.{slice_get}
+use Rattle.std.specs.Int.{w64}
 use Rattle.std.specs.List.{AllByRecursion, list_any}
 use Rattle.std.proofs.lemmas.Bool.Decides.{nat_tests}
+use Rattle.std.proofs.lemmas.Int.{fits_signed_from_abs, unsigned_abs-mul}
 use Rattle.std.proofs.lemmas.Nat.{mul-le}
 use Rattle.std.proofs.Math.Nat.{min-le_left, min-le_right, div-mul-le_self, mul-le-mul_right}
 use Rattle.std.proofs.lemmas.List.{drop_more}
 use Rattle.std.proofs.lemmas.List.Elements.{All-from_recursion, recursion_from_All}
-use Rattle.form_term.specs.Term.{Term, exponent_of}
+use Rattle.form_term.specs.Term.{IsTerm, Term, exponent_in, exponent_of, largest_exponent}
 use Rattle.form_term.specs.declared.power.DotPower.{DotPower}
+use Rattle.form_term.specs.declared.power.Power.{Power}
 use Rattle.form_match.specs.declared.uses.Use.{Use}
 use Rattle.form_match.specs.declared.uses.Use.TheVariants as uses
 use Rattle.form_match.specs.Fits.{Fits, FitsUse}
 use Rattle.form_match.specs.Matching.{are_apart, clashes, fits}
 use Rattle.form_rewrite.specs.Taking.{dot_exponent, fits_times, least, so_often, times_at, times_in}
+use Rattle.form_rewrite.specs.Ways.{HasRoom}
 
 min_assoc : (a b c : ℕ) → min (min a b) c ≡ min a (min b c)
 min_assoc a b c = omega arith
@@ -168,3 +172,48 @@ often_fits t us some h = record {
   each = All-from_recursion (FitsUse t) (map (so_often (fits_times t us)) us)
       (each_often t (fits_times t us) us some (times_below t us) (recursion_from_All (FitsUse t) us h.each));
 }
+
+-- ---- so many times a power has room
+
+product_within : (n a m : ℕ) → n ≤ a / m → n * m ≤ a
+product_within n a zero h = omega arith
+product_within n a (suc m) h = often_within n a m h
+
+room : (e k : ℤ) (n : ℕ) → nat_abs e ≤ largest_exponent → n ≤ times_in e k → FitsSigned w64 (pos n *ℤ k)
+room e k n small within =
+    let size : nat_abs (pos n *ℤ k) ≡ n * nat_abs k = unsigned_abs-mul (pos n) k in
+    let below : n * nat_abs k ≤ nat_abs e = product_within n (nat_abs e) (nat_abs k) within in
+    fits_signed_from_abs w64 (pos n *ℤ k) (omega (arith, size, below, small))
+
+exponent_small : (s : ℕ) (ps : List Power) → AllByRecursion (λ (p : Power). nat_abs p.exponent ≤ largest_exponent) ps → nat_abs (exponent_in ps s) ≤ largest_exponent
+exponent_small s [] h = omega arith
+exponent_small s (p ∷ ps) h = by (p.symbol == s) (exponent_small s ps h.1)
+  where
+    by : (b : Bool) → nat_abs (exponent_in ps s) ≤ largest_exponent → nat_abs (cond b p.exponent (exponent_in ps s)) ≤ largest_exponent
+    by true rest = h.0
+    by false rest = rest
+
+dot_small : (ds : List DotPower) (m : ℕ) → AllByRecursion (λ (d : DotPower). nat_abs d.exponent ≤ largest_exponent) ds → nat_abs (dot_exponent (slice_get ds m)) ≤ largest_exponent
+dot_small [] m h = omega arith
+dot_small (d ∷ ds) zero h = h.0
+dot_small (d ∷ ds) (suc m) h = dot_small ds m h.1
+
+one_has_room : (t : Term) (n : ℕ) (u : Use) → IsTerm t → n ≤ times_at t u → HasRoom n u
+one_has_room t n (uses.Symbol s k) lawful within =
+    room (exponent_of t s) k n (exponent_small s t.symbols (recursion_from_All (λ (p : Power). nat_abs p.exponent ≤ largest_exponent) t.symbols lawful.in_range)) within
+one_has_room t n (uses.Dot m k) lawful within =
+    room (dot_exponent (slice_get t.others.dots m)) k n
+    (dot_small t.others.dots m (recursion_from_All (λ (d : DotPower). nat_abs d.exponent ≤ largest_exponent) t.others.dots lawful.others.dots_in_range)) within
+one_has_room t n (uses.Component m) lawful within = tt
+one_has_room t n (uses.Delta m) lawful within = tt
+one_has_room t n (uses.Function m) lawful within = tt
+one_has_room t n (uses.Stretch a b) lawful within = tt
+
+each_has_room : (t : Term) (n : ℕ) (us : List Use) → IsTerm t → AllByRecursion (λ u. n ≤ times_at t u) us → AllByRecursion (HasRoom n) us
+each_has_room t n [] lawful h = tt
+each_has_room t n (u ∷ us) lawful h = (one_has_room t n u lawful h.0, each_has_room t n us lawful h.1)
+
+-- what is taken as often as it fits has room
+pub often_has_room : (t : Term) (us : List Use) → IsTerm t → All (HasRoom (fits_times t us)) us
+often_has_room t us lawful =
+    All-from_recursion (HasRoom (fits_times t us)) us (each_has_room t (fits_times t us) us lawful (times_below t us))

@@ -4,4 +4,6 @@ pub mod Fitting
 pub mod Going
 pub mod Lighter
 pub mod Options
+pub mod Plainly
+pub mod Sound
 pub mod Ways

@@ -1,5 +1,5 @@
 -- What is taken by an option.
-use Rattle.std.proofs.Common.{◌≡◌, ℕ, Bool, true, false, cond, List, Option, Some, None, option_map, Result, IfOk, refl, ap, sym, ◌∙◌, subst}
+use Rattle.std.proofs.Common.{◌≡◌, ◌<◌, ℕ, Bool, true, false, cond, List, Option, Some, None, option_map, Result, IfOk, refl, ap, sym, ◌∙◌, subst}
 use Rattle.std.specs.List.{list_all, list_any}
 use Rattle.std.specs.declared.alloc.AllocError.{AllocError}
 use Rattle.form_base.specs.declared.taking.Taking.{Taking}
@@ -11,9 +11,10 @@ use Rattle.form_tree.specs.Pattern.{Factors, pieces_of_factors}
 use Rattle.form_match.specs.Matching.{first_of}
 use Rattle.form_match.specs.Ready.{is_plain_piece, is_whole_piece}
 use Rattle.form_match.specs.declared.matching.Match.{Match}
+use Rattle.form_match.specs.declared.uses.Use.{Use}
 use Rattle.form_rewrite.specs.Takes.{taken_in}
-use Rattle.form_rewrite.specs.Taking.{and_match, option_by, option_of, take_out, taken_as, taken_many, taken_once, untouched, usual}
-use Rattle.form_rewrite.specs.Ways.{all_more, is_exact, taken_by}
+use Rattle.form_rewrite.specs.Taking.{and_match, fits_times, option_by, option_of, take_out, taken_as, taken_many, taken_once, untouched, usual}
+use Rattle.form_rewrite.specs.Ways.{FitsOften, all_more, is_exact, taken_by}
 use Rattle.form_rewrite.specs.declared.taken.Take.{Take}
 use Rattle.form_rewrite.specs.declared.taken.Taken.{Taken}
 
@@ -37,6 +38,29 @@ exact (Some Once) ps = refl
 exact (Some Only) ps = refl
 exact (Some Multi) ps = usual_is_none ps
 exact (Some Many) ps = refl
+
+-- ---- what is taken as often as it fits is a match of a plain pattern
+
+usual_plain : (ps : List PatternPiece) → usual ps ≡ Multi → list_all is_plain_piece ps ≡ true
+usual_plain ps = by (list_all is_plain_piece ps) (list_any is_whole_piece ps)
+  where
+    by : (a b : Bool) → cond a Multi (cond b Once Many) ≡ Multi → a ≡ true
+    by true b h = refl
+    by false true h = cc
+    by false false h = cc
+
+option_plain : (option : Option Taking) (ps : List PatternPiece) → option_by option ps ≡ Multi → list_all is_plain_piece ps ≡ true
+option_plain None ps h = usual_plain ps h
+option_plain (Some Once) ps h = cc
+option_plain (Some Only) ps h = cc
+option_plain (Some Multi) ps h = usual_plain ps h
+option_plain (Some Many) ps h = cc
+
+pub fits_often : (o : Taking) (option : Option Taking) (ps : List PatternPiece) (t : Term) (us : List Use) → o ≡ option_by option ps → (list_all is_plain_piece ps ≡ true → 0 < fits_times t us) → FitsOften o t us
+fits_often Once option ps t us is plain = tt
+fits_often Only option ps t us is plain = tt
+fits_often Multi option ps t us is plain = plain (option_plain option ps (sym is))
+fits_often Many option ps t us is plain = tt
 
 module _ (table : List (Option (List Piece))) (fs : Factors) where
   many : (x : Taken) (found : Option Match) → taken_many table fs (taken_once x found) ≡ option_map (λ m. all_more table fs (and_match x m)) found

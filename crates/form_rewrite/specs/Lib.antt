@@ -1,5 +1,6 @@
 pub mod Ended
 pub mod Goes
+pub mod Sound
 pub mod Takes
 pub mod Taking
 pub mod Ways

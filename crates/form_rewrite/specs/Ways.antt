@@ -1,5 +1,6 @@
 -- What is taken with the first match, by the ways that the search goes. (Private: cited by what takes it out alone.)
-use Rattle.std.specs.Prelude.{◌≡◌, ◌+◌, Bool, true, false, ⊤, List, [], ◌∷◌, Option, Some}
+use Rattle.std.specs.Prelude.{◌≡◌, ◌+◌, ◌<◌, ℕ, pos, ◌*ℤ◌, FitsSigned, Bool, true, false, ⊤, List, [], ◌∷◌, Option, Some}
+use Rattle.std.specs.Int.{w64}
 use Rattle.form_base.specs.declared.taking.Taking.{Taking}
 use Rattle.form_base.specs.declared.taking.Taking.TheVariants.{Once, Only, Multi, Many}
 use Rattle.form_term.specs.Term.{Term}
@@ -34,6 +35,17 @@ leaves_words _ = true
 abbrev pub IsOnce : Taking → Term → List Use → Type 0
 IsOnce Multi t us = fits_times t us ≡ 1
 IsOnce _ t us = ⊤
+
+-- a match that is taken as often as it fits does fit
+abbrev pub FitsOften : Taking → Term → List Use → Type 0
+FitsOften Multi t us = 0 < fits_times t us
+FitsOften _ t us = ⊤
+
+-- so many times a power is no larger than a power may be
+abbrev pub HasRoom : ℕ → Use → Type 0
+HasRoom n (uses.Symbol s k) = FitsSigned w64 (pos n *ℤ k)
+HasRoom n (uses.Dot m k) = FitsSigned w64 (pos n *ℤ k)
+HasRoom n _ = ⊤
 
 -- more matches are looked for
 abbrev pub is_many : Taking → Bool

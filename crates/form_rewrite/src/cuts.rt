@@ -1,5 +1,5 @@
 //! Where a word is cut.
-ghost use Rattle.std.specs.Prelude.{◌≡◌, ◌+◌, ◌≤◌, IfOk, length, map};
+ghost use Rattle.std.specs.Prelude.{◌≡◌, ◌≤◌, IfOk, length, map};
 ghost use Rattle.std.specs.List.{prefix_len};
 ghost use Rattle.form_rewrite.specs.Taking.{cut_out as cut_out_of, cuts_by as cuts_by_uses, given_cuts, is_before as is_before_place, moved as moved_by};
 
@@ -12,22 +12,14 @@ pub fn cuts_given(alloc: Global, places: &[u32]) -> Result<Vec<Cut>, AllocError>
     ensures { IfOk result (λ cuts. cuts.items ≡ given_cuts places.now) }
 {
     let mut cuts = Vec::new(alloc);
-    let mut number = 0u32;
-    for place in places {
+    for number in 0..places.len() {
         let origin = Origin::Given(number);
         cuts.push(Cut {
-            place: *place,
+            place: places[number],
             origin,
         })?;
-        number = next(number)?;
     }
     Ok(cuts)
-}
-
-fn next(number: u32) -> Result<u32, AllocError>
-    ensures { IfOk result (λ n. n ≡ number + 1) }
-{
-    number.checked_add(1).ok_or(AllocError)
 }
 
 /// The places of these cuts.

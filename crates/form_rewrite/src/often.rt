@@ -1,7 +1,9 @@
 //! How often a match of powers can be taken.
-ghost use Rattle.std.specs.Prelude.{◌≡◌, IfOk, map, pos, ◌*ℤ◌};
+ghost use Rattle.std.specs.Int.{w64};
+ghost use Rattle.std.specs.Prelude.{◌≡◌, All, FitsSigned, IfOk, map, pos, ◌*ℤ◌};
 ghost use Rattle.form_term.specs.Term.{exponent_in};
 ghost use Rattle.form_rewrite.specs.Taking.{fits_times, so_often as so_often_of, times_at, times_in};
+ghost use Rattle.form_rewrite.specs.Ways.{HasRoom};
 
 use form_base::Id;
 use form_match::{Use, Uses};
@@ -28,7 +30,7 @@ fn times_of(term: &Term, one: &Use) -> u32
 {
     match one {
         Use::Symbol(symbol, power) => times_in(exponent_in(term.powers(), *symbol), *power),
-        Use::Dot(place, power) => match term.dots().get(*place as usize) {
+        Use::Dot(place, power) => match term.dots().get(*place) {
             Some(dot) => times_in(dot.exponent, *power),
             None => times_in(0, *power),
         },
@@ -59,27 +61,30 @@ fn exponent_in(powers: &[Power], symbol: Id) -> i32
 
 /// A match that is taken so often.
 pub fn so_often(alloc: Global, times: u32, takes: &[Use]) -> Result<Uses, AllocError>
+    requires { All (HasRoom times) takes.now }
     ensures { IfOk result (λ uses. uses ≡ map (so_often_of times) takes.now) }
 {
     let mut uses = Uses::new(alloc);
     for one in takes {
-        uses.push(use_so_often(times, one)?)?;
+        uses.push(use_so_often(times, one))?;
     }
     Ok(uses)
 }
 
-fn use_so_often(times: u32, one: &Use) -> Result<Use, AllocError>
-    ensures { IfOk result (λ often. often ≡ so_often_of times one.now) }
+fn use_so_often(times: u32, one: &Use) -> Use
+    requires { HasRoom times one.now }
+    ensures { result ≡ so_often_of times one.now }
 {
-    Ok(match one {
-        Use::Symbol(symbol, power) => Use::Symbol(*symbol, multiple(times, *power)?),
-        Use::Dot(place, power) => Use::Dot(*place, multiple(times, *power)?),
+    match one {
+        Use::Symbol(symbol, power) => Use::Symbol(*symbol, multiple(times, power)),
+        Use::Dot(place, power) => Use::Dot(*place, multiple(times, power)),
         other => *other,
-    })
+    }
 }
 
-fn multiple(times: u32, power: i64) -> Result<i64, AllocError>
-    ensures { IfOk result (λ product. product ≡ pos times *ℤ power) }
+fn multiple(times: u32, power: &i64) -> i64
+    requires { FitsSigned w64 (pos times *ℤ power.now) }
+    ensures { result ≡ pos times *ℤ power.now }
 {
-    i64::from(times).checked_mul(power).ok_or(AllocError)
+    i64::from(times) * *power
 }

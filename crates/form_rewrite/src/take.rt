@@ -1,18 +1,18 @@
-ghost use Rattle.std.specs.Prelude.{◌≡◌, ℕ, [], ◌∷◌, ◌+◌, Ok, Some, IfOk, suc, true, false};
+ghost use Rattle.std.specs.Prelude.{◌≡◌, ◌<◌, ℕ, [], ◌∷◌, Ok, Some, IfOk, suc, true, false};
 ghost use Rattle.std.specs.List.{list_all};
 ghost use Rattle.form_term.specs.Term.{Term};
 ghost use Rattle.form_tree.specs.Pattern.{Factors, pieces_of_factors};
 ghost use Rattle.form_match.specs.Fits.{Fits};
 ghost use Rattle.form_rewrite.specs.Goes.{goes_on};
-ghost use Rattle.form_rewrite.specs.Ways.{EndsWith, IsOnce, IsTaken, all_more, is_exact as is_exact_by, is_many as is_many_by, leaves_words as leaves_words_of, taken_by};
+ghost use Rattle.form_rewrite.specs.Ways.{EndsWith, FitsOften, IsOnce, IsTaken, all_more, is_exact as is_exact_by, is_many as is_many_by, leaves_words as leaves_words_of, taken_by};
 ghost use Rattle.form_rewrite.specs.Takes.{taken_in};
-ghost use Rattle.form_rewrite.specs.Taking.{and_match as with_match, and_more as with_more, fits_times as fits_times_of, is_idle_use as takes_nothing, multiplied, option_by, take_out as taken_out, taken_so_far, untouched, usual as usual_of, weight as weight_of};
+ghost use Rattle.form_rewrite.specs.Taking.{and_match as with_match, and_more as with_more, fits_times as fits_times_of, is_idle_use as takes_nothing, multiplied, option_by, take_out as taken_out, taken_so_far, untouched, usual as usual_of};
 ghost use Rattle.form_rewrite.specs.declared.taken.Take.TheVariants.{Untaken};
 
 use crate::cuts::{cuts_by, cuts_given, places};
 use crate::often::{fits_times, so_often};
 use crate::weight::most_matches;
-use crate::{Cut, Cuts, Matches, Origin, Single, Take, Taken};
+use crate::{Cut, Cuts, Matches, Origin, Single, Take, Taken, laws};
 use form_base::Taking;
 use form_bindings::Bindings;
 use form_match::{Match, Pattern, Use, first_of, left_of};
@@ -31,6 +31,7 @@ pub fn take_out(
         IfOk result (λ take. taken_in take ≡ taken_out pattern.now.fixed fs option term cuts.now) }
     ensures untaken { (t : Term) → result ≡ Ok (Untaken t) → t ≡ term }
 {
+    laws::plain_patterns_fit();
     let Some(found) = first_of(alloc, pattern, &term, cuts, is_exact(option))? else {
         return Ok(Take::Untaken(term));
     };
@@ -179,12 +180,10 @@ fn so_many_times(
 ) -> Result<Taken, AllocError>
     requires fits { Fits found.takes term }
     requires times { times ≡ fits_times_of term found.takes }
+    requires some { 0 < times }
     ensures { IfOk result (λ taken. taken ≡ multiplied (taken_so_far term cuts [] 1) found) }
 {
-    if times == 0 {
-        // What a plain pattern takes is powers, each of which fits at least once.
-        return Err(AllocError);
-    }
+    let _ = term.powers();
     let Match { takes, bindings } = found;
     let takes = so_often(alloc, times, takes.as_slice())?;
     let left = left_of(alloc, term, takes.as_slice())?;
@@ -196,6 +195,25 @@ fn so_many_times(
         matches,
         times,
     })
+}
+
+/// A match, as often as it fits. What a plain pattern takes fits at least once: any other match is taken once.
+fn as_often_as_it_fits(
+    alloc: Global,
+    term: Term,
+    cuts: Vec<Cut>,
+    found: Match,
+) -> Result<Taken, AllocError>
+    requires { Fits found.takes term }
+    ensures { 0 < fits_times_of term found.takes →
+        IfOk result (λ taken. taken ≡ multiplied (taken_so_far term cuts.items [] 1) found) }
+{
+    let times = fits_times(&term, found.takes.as_slice());
+    if times == 0 {
+        return and_match(alloc, term, cuts, Matches::new(alloc), 1, found);
+    }
+    let taken = so_many_times(alloc, term, Cuts::from_vec(cuts), times, found)?;
+    Ok(taken)
 }
 
 /// One match, and those in what it left.
@@ -225,7 +243,7 @@ fn take_several(
     found: Match,
 ) -> Result<Take, AllocError>
     requires { Fits found.takes term }
-    ensures taken { (fs : Factors) → pattern.now.pieces ≡ pieces_of_factors fs → IfOk result (λ take. taken_in take
+    ensures taken { (fs : Factors) → pattern.now.pieces ≡ pieces_of_factors fs → FitsOften option term found.takes → IfOk result (λ take. taken_in take
         ≡ Some (taken_by option pattern.now.fixed fs (untouched term cuts.now) found)) }
     ensures some { IfOk result IsTaken }
 {
@@ -242,7 +260,7 @@ fn take_by(
     found: Match,
 ) -> Result<Taken, AllocError>
     requires { Fits found.takes term }
-    ensures { (fs : Factors) → pattern.now.pieces ≡ pieces_of_factors fs → IfOk result (λ taken. taken
+    ensures { (fs : Factors) → pattern.now.pieces ≡ pieces_of_factors fs → FitsOften option term found.takes → IfOk result (λ taken. taken
         ≡ taken_by option pattern.now.fixed fs (untouched term cuts.now) found) }
 {
     let cuts = cuts_given(alloc, cuts)?;
@@ -256,8 +274,7 @@ fn take_by(
             Ok(taken)
         }
         Taking::Multi => {
-            let times = fits_times(&term, found.takes.as_slice());
-            let taken = so_many_times(alloc, term, Cuts::from_vec(cuts), times, found)?;
+            let taken = as_often_as_it_fits(alloc, term, cuts, found)?;
             Ok(taken)
         }
         Taking::Many => {
@@ -274,7 +291,7 @@ fn and_more(alloc: Global, pattern: &Pattern, taken: Taken) -> Result<Taken, All
     ensures { (fs : Factors) → pattern.now.pieces ≡ pieces_of_factors fs →
         IfOk result (λ more. more ≡ all_more pattern.now.fixed fs taken) }
 {
-    let most = most_matches(&taken.left)?;
+    let most = most_matches(&taken.left);
     let all = and_at_most(alloc, pattern, most, taken)?;
     Ok(all)
 }
@@ -283,7 +300,7 @@ fn and_more(alloc: Global, pattern: &Pattern, taken: Taken) -> Result<Taken, All
 fn and_at_most(
     alloc: Global,
     pattern: &Pattern,
-    most: u64,
+    most: u128,
     taken: Taken,
 ) -> Result<Taken, AllocError>
     ensures { (fs : Factors) → pattern.now.pieces ≡ pieces_of_factors fs →
@@ -342,7 +359,7 @@ fn and_match(
     ensures { IfOk result (λ taken. taken ≡ with_match (taken_so_far left cuts.items matches times) found) }
 {
     let Match { takes, bindings } = found;
-    let number = u32::try_from(matches.len()).map_err(|_| AllocError)?;
+    let number = matches.len();
     let cuts = cuts_by(alloc, Origin::TakenBy(number), cuts, takes.as_slice())?;
     let left = left_of(alloc, left, takes.as_slice())?;
     let mut matches = matches;

@@ -11,9 +11,9 @@ use std::marker::Model;
 #[derive(Clone, Copy)]
 pub enum Origin {
     /// It was cut there before: by its number among those places.
-    Given(u32),
+    Given(usize),
     /// A match took a stretch out: by its number among the matches.
-    TakenBy(u32),
+    TakenBy(usize),
 }
 
 /// A place in the word that is left, in front of so many of its functions.

@@ -47,9 +47,6 @@ module _ (names : List Entry) (stands : ℕ → Bool) (known : Known) (law : (tr
       ∙ sym (bind-bind (sum names stands known s) (λ t. Ok (at (pieces_of_sum t) Sum 0)) (λ w. Ok w.pieces))
       ∙ ap made (sym (walked-whole names stands known s (bare-lawful list lawful)) ∙ ap (walked names stands known (at [] Sum 0)) (sym lawful.pieces))
 
-  pub whole-from : (start : Walk) (list : List Piece) → AreLawful list → start ≡ at [] Sum 0 → right_side names stands known list ≡ made (walked names stands known start list)
-  whole-from start list lawful is = whole-walked list lawful ∙ ap (λ (s : Walk). made (walked names stands known s list)) (sym is)
-
 -- the same where no expression is named
 pub inside-walked : (names : List Entry) (stands : ℕ → Bool) (known : Known) → ((tree : syntax.Sum) → tree_of (syntax.pieces_of_sum tree) ≡ Some tree) → (pattern list : List Piece) → AreRight pattern list
     → right_side names none_stands known list ≡ made (walked names stands known (at [] Sum 1) list)

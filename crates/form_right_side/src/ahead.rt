@@ -140,12 +140,12 @@ pub fn ends_call(piece: &form_ast::Piece) -> bool
 }
 
 /// The number of a field, where a piece is one.
-pub fn field_of(known: &Known, piece: &form_ast::Piece) -> Result<Option<u32>, AllocError>
-    ensures { IfOk result (λ number. number ≡ walking.field_of known.now piece.now) }
+pub fn field_of(known: &Known, piece: &form_ast::Piece) -> Option<usize>
+    ensures { result ≡ walking.field_of known.now piece.now }
 {
     match piece {
-        form_ast::Piece::Field(field) => Ok(Some(known.field(field.name.as_str())?)),
-        _ => Ok(None),
+        form_ast::Piece::Field(field) => Some(known.field_number(field.name.as_str())),
+        _ => None,
     }
 }
 

@@ -1,8 +1,7 @@
-ghost use Rattle.std.specs.Prelude.{◌≡◌, IfOk, position};
+ghost use Rattle.std.specs.Prelude.{◌≡◌, position};
 ghost use Rattle.std.specs.Str.{bytes_eq};
 
 use form_base::{Id, Name};
-use std::alloc::AllocError;
 use std::marker::Model;
 
 /// Where a name stands first.
@@ -54,16 +53,5 @@ impl Known {
             Some(number) => number,
             None => fields.len(),
         }
-    }
-
-    /// The same as a piece has it: no text has so many that it can't be told.
-    pub fn field(&self, name: &str) -> Result<u32, AllocError>
-        ensures { IfOk result (λ number. number ≡ number_of_field self.now.fields name.now) }
-    {
-        let number = self.field_number(name);
-        if number > u32::MAX as usize {
-            return Err(AllocError);
-        }
-        Ok(number as u32)
     }
 }

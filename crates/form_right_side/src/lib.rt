@@ -28,5 +28,5 @@ pub use powers::{
 };
 pub use raised::symbol_named;
 pub use resolved::{End, Found, Head};
-pub use sides::{argument, right_side, right_side_of_pattern};
+pub use sides::{argument, right_side, right_side_of_list, right_side_of_pattern};
 pub use standing::Standing;

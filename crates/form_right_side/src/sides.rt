@@ -1,5 +1,5 @@
 //! Right sides over Ids.
-ghost use Rattle.std.specs.Prelude.{◌≡◌, [], IfOk};
+ghost use Rattle.std.specs.Prelude.{◌≡◌, ◌+◌, ◌≤◌, ◌^◌, [], IfOk, length};
 ghost use Rattle.form_ast.specs.Lawful.{AreLawful, AreRight};
 ghost use Rattle.form_right_side.specs.Marks.{stands_in};
 ghost use Rattle.form_right_side.specs.Refusal.{Gives};
@@ -17,7 +17,7 @@ use crate::walk::Walk;
 use form_ast::{Link, LongExpr, Piece, append, laws};
 use form_names::Names;
 use form_tree::Tree;
-use std::alloc::{AllocError, Global};
+use std::alloc::Global;
 
 /// Of a block above 32 MiB glibc learns nothing.
 const MOST_SPARE: usize = 690_000;
@@ -32,12 +32,10 @@ fn walked(
     mut walk: Walk,
     list: &[Piece],
 ) -> Result<Walk, CheckError>
-    ensures { Gives walk_of result (walked_over names.now (stands_in standing.now) known.now (walk_of walk) list.now) }
+    requires { walk.calls ≤ 2 ^ 63 }
+    ensures made { Gives walk_of result (walked_over names.now (stands_in standing.now) known.now (walk_of walk) list.now) }
+    ensures calls { IfOk result (λ w. w.calls ≤ walk.calls + length list.now) }
 {
-    // there is no list so long
-    if walk.calls > usize::MAX - list.len() {
-        return Err(CheckError::Memory);
-    }
     let mut rest = list;
     while let [piece, others @ ..] = rest {
         if !walk.take_plain(names, known, piece, others)? {
@@ -50,13 +48,11 @@ fn walked(
 
 /// How many calls are open behind pieces, before which so many are.
 #[tactic(auto, unfolding(crate::specs::Parting::open_behind))]
-fn open_behind(before: usize, list: &[Piece]) -> Result<usize, AllocError>
-    ensures { IfOk result (λ opened. opened ≡ parting.open_behind before list.now) }
+fn open_behind(before: usize, list: &[Piece]) -> usize
+    requires { before ≤ 2 ^ 63 }
+    ensures opened { result ≡ parting.open_behind before list.now }
+    ensures few { result ≤ before + length list.now }
 {
-    // there is no list so long
-    if before > usize::MAX - list.len() {
-        return Err(AllocError);
-    }
     let mut opened = before;
     let mut rest = list;
     while let [piece, others @ ..] = rest {
@@ -67,7 +63,7 @@ fn open_behind(before: usize, list: &[Piece]) -> Result<usize, AllocError>
         }
         rest = others;
     }
-    Ok(opened)
+    opened
 }
 
 /// Whether a link is a written sign between terms.
@@ -129,10 +125,12 @@ fn walked_whole(
         let next = part.into_vec();
         if opened == 0 && begins_term(&next) {
             walk = walked(alloc, names, standing, known, walk, &pieces)?;
-            opened = open_behind(0, &next)?;
+            let begun = open_behind(0, &next);
+            opened = begun;
             pieces = next;
         } else {
-            opened = open_behind(opened, &next)?;
+            let more = open_behind(opened, &next);
+            opened = more;
             append(&mut pieces, next)?;
         }
     }
@@ -166,6 +164,36 @@ pub fn right_side(
 {
     laws::one_tree();
     let walk = walked_whole(alloc, names, standing, known, long)?;
+    Ok(Tree::from_vec(walk.into_pieces()))
+}
+
+/// The walk over a right side that stands as one list.
+fn walked_list(
+    alloc: Global,
+    names: &Names,
+    standing: &Standing,
+    known: &Known,
+    list: &[Piece],
+) -> Result<Walk, CheckError>
+    ensures { Gives walk_of result (walked_over names.now (stands_in standing.now) known.now (at [] Sum 0) list.now) }
+{
+    let start = Walk::new(Vec::with_capacity(alloc, list.len())?);
+    walked(alloc, names, standing, known, start, list)
+}
+
+/// A right side that stands as one list, such as that of a `multiply`.
+pub fn right_side_of_list(
+    alloc: Global,
+    names: &Names,
+    standing: &Standing,
+    known: &Known,
+    list: &[Piece],
+) -> Result<Tree, CheckError>
+    requires { AreLawful list.now }
+    ensures { Gives (λ tree. tree) result (definition.right_side names.now (stands_in standing.now) known.now list.now) }
+{
+    laws::one_tree();
+    let walk = walked_list(alloc, names, standing, known, list)?;
     Ok(Tree::from_vec(walk.into_pieces()))
 }
 

@@ -275,7 +275,7 @@ impl Walk {
         if ends_call(piece) {
             return self.end_call(alloc, names, rest);
         }
-        match field_of(known, piece)? {
+        match field_of(known, piece) {
             Some(number) => {
                 put(&mut self.pieces, Piece::Field(number))?;
                 self.place = Place::Behind;

@@ -21,22 +21,15 @@ use Rattle.form_stmts.specs.declared.keyword.Keyword.TheVariants as by_keyword
 use Rattle.form_stmts.specs.Begun.{is_local, is_local_kind, is_name_kind, is_equals_mark, is_equals_kind, is_front}
 use Rattle.form_stmts.specs.Keyword.{keyword_of}
 use Rattle.form_stmts.specs.Reading.{front_name}
-use Rattle.form_stmts.specs.Statement.{FollowsKeyword, IsDefinition, IsStatement}
+use Rattle.form_ast.specs.declared.statement.Placed.{Placed}
+use Rattle.form_blocks.specs.Blocks.{Read}
+use Rattle.form_stmts.specs.Statement.{AreRead, BeginsAt, BehindLine, FollowsKeyword, IsDefinition, IsStatement, ReadsSo}
 use Rattle.form_stmts.proofs.Excluded.{right_side}
 
 local_from : (o : Option Keyword) → is_local o ≡ true → o ≡ Some by_keyword.Local
 local_from None e = cc
-local_from (Some (by_keyword.Names declared)) e = cc
-local_from (Some by_keyword.Indices) e = cc
-local_from (Some by_keyword.Dimension) e = cc
-local_from (Some by_keyword.Switch) e = cc
-local_from (Some by_keyword.Set) e = cc
-local_from (Some by_keyword.Drop) e = cc
-local_from (Some by_keyword.Skip) e = cc
 local_from (Some by_keyword.Local) e = refl
-local_from (Some by_keyword.Id) e = cc
-local_from (Some by_keyword.Also) e = cc
-local_from (Some by_keyword.Print) e = cc
+local_from (Some _) e = cc
 
 local_is : (kind : TokenKind) (spot : Spot) → is_local_kind kind ≡ true → (name : Spelled) × (kind_terminal kind spot ≡ Name name) × (keyword_of name.name ≡ Some by_keyword.Local)
 local_is (by_kind.Number value) spot e = cc
@@ -146,3 +139,33 @@ second_name tokens front k after e f =
     let same : given ≡ got = same_Some given got (ap front_name (sym front.written) ∙ e) in
     let behind : Name front.name ∷ Equals ∷ [] ≡ after = ap (λ (x : Spelled × List Terminal). x.1) same in
     none-some (front.name, Equals ∷ []) (sym f ∙ ap front_name (sym behind))
+
+-- ---- a definition as it is read
+
+module _ (tokens : List Token) (rest : List Terminal) (front : Front tokens) where
+  -- it is read so
+  pub definition_read : (spot : Spot) (k : Spelled) (after : List Terminal) (name : Spelled) (others : List Terminal) (pieces : List Piece) → front_name (map terminal_of tokens) ≡ Some (k, after) → spot ≡ k.spot → front_name after ≡ Some (name, others) → IsExpr rest pieces
+      → ReadsSo (map terminal_of tokens ++ rest) (record { lines = []; last = record { spot = spot; statement = statements.Local name pieces } })
+  definition_read spot k after name others pieces e s f h =
+      let given : Spelled × List Terminal = (front.keyword, Name front.name ∷ Equals ∷ []) in
+      let got : Spelled × List Terminal = (k, after) in
+      let same : given ≡ got = same_Some given got (ap front_name (sym front.written) ∙ e) in
+      let behind : Name front.name ∷ Equals ∷ [] ≡ after = ap (λ (x : Spelled × List Terminal). x.1) same in
+      let second : Spelled × List Terminal = (front.name, Equals ∷ []) in
+      let there : Spelled × List Terminal = (name, others) in
+      let names : second ≡ there = same_Some second there (ap front_name behind ∙ f) in
+      let is : IsStatement (map terminal_of tokens ++ rest) (statements.Local name pieces) = subst (λ (n : Spelled). IsStatement (map terminal_of tokens ++ rest) (statements.Local n pieces)) (ap (λ (x : Spelled × List Terminal). x.0) names) (definition_from tokens rest front pieces h) in
+      let at : spot ≡ front.keyword.spot = s ∙ ap (λ (x : Spelled × List Terminal). x.0.spot) (sym same) in
+      (is, subst (BeginsAt spot) (sym (whole tokens rest front)) at)
+
+  -- and in no other way
+  pub right_side_read : (r : Read) → ReadsSo (map terminal_of tokens ++ rest) r → (pieces : List Piece) × IsExpr rest pieces
+  right_side_read r h = by_lines r.lines r.last h where
+    by_lines : (lines : List Placed) (last : Placed) → AreRead lines last (map terminal_of tokens ++ rest) → (pieces : List Piece) × IsExpr rest pieces
+    by_lines [] last k = right_side_of tokens rest front last.statement k.0
+    by_lines (o ∷ os) last k =
+        let given : Spelled × List Terminal = (front.keyword, Name front.name ∷ Equals ∷ rest) in
+        let written : Spelled × List Terminal = (k.1.first, k.1.behind) in
+        let same : given ≡ written = same_Some given written (ap front_name (sym (whole tokens rest front) ∙ k.1.written)) in
+        let keyword : keyword_of k.1.first.name ≡ Some by_keyword.Local = ap (λ (x : Spelled × List Terminal). keyword_of x.0.name) (sym same) ∙ front.spelled in
+        absurd (subst (λ (w : Option Keyword). BehindLine w o.statement k.1.behind k.0) keyword k.1.behind_it)

@@ -1,14 +1,12 @@
 -- Reading goes on by a token, a line or a module, and meets what is refused.
-use Rattle.std.proofs.Common.{◌≡◌, inl, inr, ℕ, true, false, List, [], ◌∷◌, ◌++◌, map, Option, Some, None, Result, Ok, Err, refl, sym, ap, subst, ◌∙◌, append_assoc}
-use Rattle.std.specs.Prelude.{OnOk, IfErr, IsTrue}
+use Rattle.std.proofs.Common.{◌≡◌, inr, ℕ, true, false, List, [], ◌∷◌, ◌++◌, map, Option, Some, Result, Ok, Err, refl, sym, ap, subst, ◌∙◌, append_assoc}
+use Rattle.std.specs.Prelude.{OnOk, IfErr}
 use Rattle.std.proofs.lemmas.List.{append-nil, map-append}
-use Rattle.std.proofs.lemmas.Option.{same_Some}
 use Rattle.form_lexer.specs.Tokens.{AreTokens}
 use Rattle.form_base.specs.declared.spot.Spot.{Spot}
 use Rattle.form_stmts.specs.Line.{PlacedLine}
 use Rattle.form_lexer.specs.declared.token.Token.{Token}
-use Rattle.form_ast.specs.declared.statement.Statement.{Statement}
-use Rattle.form_ast.specs.declared.statement.Placed.{Placed}
+use Rattle.form_ast.specs.declared.module.PlacedPart.{PlacedPart}
 use Rattle.form_grammar.specs.Terminal.{terminal_of}
 use Rattle.form_stmts.specs.declared.error.ProgramError.{ProgramError}
 use Rattle.form_stmts.specs.declared.error.ProgramError.TheVariants.{BadSyntax, Memory}
@@ -18,123 +16,92 @@ use Rattle.form_grammar.specs.declared.terminal.Terminal.{Terminal}
 use Rattle.form_grammar.specs.Parts.{HasRead}
 use Rattle.form_stmts.specs.Begun.{AreBegun}
 use Rattle.form_stmts.specs.Instruction.{begins_with_period, is_module_instruction}
-use Rattle.form_stmts.specs.Statement.{IsStatement}
-use Rattle.form_stmts.specs.Program.{Lexed, token, period, Item, statement, instruction, items, first_spot, is_semicolon, may_stand, LeadsTo, IsInGrammar, StandsAt, IsRefusedAt, AreModules, IsLexed}
-use Rattle.form_stmts.specs.Progress.{HasBegun, ReadTo, ReadsOn, Refuses, RefusesLine, EndsStatement, IsRefusedItem}
+use Rattle.form_blocks.specs.Blocks.{Unfinished, new_module}
+use Rattle.form_blocks.specs.Growing.{parts_grown}
+use Rattle.form_stmts.specs.Program.{Lexed, token, period, Item, statement, instruction, items, unfinished_items, is_semicolon, ends_module, GoesOn, IsRefusedAt, AreModules, IsLexed}
+use Rattle.form_stmts.specs.Progress.{HasBegun, AreLeft, ReadTo, ReadsOn, Refuses, RefusesLine, EndsStatement, LeavesStatement, EndsModule}
 
--- a statement that is none is refused at its first token
-pub refused_statement : (before : List Placed) (tokens : List Token) (spot : Spot) → Some spot ≡ first_spot tokens → ((s : Statement) → IsStatement (map terminal_of tokens) s → ⊥)
-    → (IsInGrammar before (statement tokens) → ⊥) × StandsAt (statement tokens) spot
-refused_statement before [] spot e h = absurd cc
-refused_statement before (t ∷ ts) spot e h = (λ g. h g.1.0 g.1.1, sym (same_Some spot t.spot e))
+-- ---- items one after another
 
--- a statement that may stand there is added
-pub statement_ends : (before after : List Placed) (tokens : List Token) (spot : Spot) (s : Statement) → Some spot ≡ first_spot tokens → IsStatement (map terminal_of tokens) s → may_stand before tokens ≡ true
-    → after ≡ before ++ record { spot = spot; statement = s } ∷ [] → LeadsTo (statement tokens) before after
-statement_ends before after [] spot s e h m a = absurd cc
-statement_ends before after (t ∷ ts) spot s e h m a =
-    (s, h, m, a ∙ ap (λ (x : Spot). before ++ record { spot = x; statement = s } ∷ []) (same_Some spot t.spot e))
+refused_on : (item : Item) (others : List Item) (b c : Unfinished) (spot : Spot) → ends_module item ≡ false → GoesOn b item c → IsRefusedAt c others spot → IsRefusedAt b (item ∷ others) spot
+refused_on item others b c spot e g r = rw e (c, g, r)
 
-statement_added : (tokens : List Token) (old new : List Placed) (others : List Item) (more : List (List Placed)) → LeadsTo (statement tokens) old new → AreModules new others more → AreModules old (statement tokens ∷ others) more
-statement_added [] old new others more h m = subst (λ (begun : List Placed). AreModules begun others more) h m
-statement_added (t ∷ ts) old new others more h m = (h.0, h.1, h.2, subst (λ (begun : List Placed). AreModules begun others more) h.3 m)
+modules_on : (item : Item) (others : List Item) (b c : Unfinished) (more : List (List PlacedPart)) → ends_module item ≡ false → GoesOn b item c → AreModules c others more → AreModules b (item ∷ others) more
+modules_on item others b c more e g m = rw e (c, g, m)
+
+-- behind a statement that isn't finished
+refused_left : (begun : List Token) (others : List Item) (b c : Unfinished) (spot : Spot) → AreLeft b begun c → IsRefusedAt c others spot → IsRefusedAt b (unfinished_items begun ++ others) spot
+refused_left [] others b c spot h r = subst (λ (x : Unfinished). IsRefusedAt x others spot) h r
+refused_left (t ∷ ts) others b c spot h r = (c, h, r)
+
+modules_left : (begun : List Token) (others : List Item) (b c : Unfinished) (more : List (List PlacedPart)) → AreLeft b begun c → AreModules c others more → AreModules b (unfinished_items begun ++ others) more
+modules_left [] others b c more h m = subst (λ (x : Unfinished). AreModules x others more) h m
+modules_left (t ∷ ts) others b c more h m = (c, h, m)
 
 all_behind : (lexed rest : List Lexed) (here : Lexed) → items [] (lexed ++ here ∷ rest) ≡ items [] ((lexed ++ here ∷ []) ++ rest)
 all_behind lexed rest here = ap (items []) (sym (append_assoc lexed (here ∷ []) rest))
 
-module _ (old new : Reader) (t : Token) (e : is_semicolon t ≡ true) (h : EndsStatement old new) where
-  -- behind a `;` the items are the statement and those of the rest
-  items_behind : (begun : List Token) (rest : List Lexed) → items begun (token t ∷ rest) ≡ statement begun ∷ items [] rest
-  items_behind begun rest = rw e refl
+-- ---- reading goes on
 
-  pub ends_statement : ReadsOn old (token t ∷ []) new
-  ends_statement lexed to =
-      let ended = h.statements to.begun to.has_begun in
-      record {
-        begun = [];
-        has_begun = h.has_begun;
-        refused = λ rest spot r.
-            let behind : IsRefusedAt old.statements.items (statement to.begun ∷ items [] rest) spot = inr (new.statements.items, ended, r) in
-            subst (λ (all : List Item). IsRefusedAt [] all spot) (all_behind lexed rest (token t)) (to.refused (token t ∷ rest) spot (subst (λ (all : List Item). IsRefusedAt old.statements.items all spot) (sym (items_behind to.begun rest)) behind));
-        modules = λ rest more m.
-            let behind = statement_added to.begun old.statements.items new.statements.items (items [] rest) more ended m in
-            let all = to.modules (token t ∷ rest) more (subst (λ (all : List Item). AreModules old.statements.items all more) (sym (items_behind to.begun rest)) behind) in
-            subst (λ (modules : List (List Placed)). AreModules [] (items [] ((lexed ++ token t ∷ []) ++ rest)) (modules ++ more)) (sym h.modules)
-            (subst (λ (all : List Item). AreModules [] all (old.modules.items ++ more)) (all_behind lexed rest (token t)) all);
-      }
+-- by one thing, where what follows is refused or made the same with it
+module _ (old new : Reader) (here : Lexed) (after : List Token → List Token) (begins : (begun : List Token) → HasBegun old begun → HasBegun new (after begun))
+    (refuses : (begun : List Token) → HasBegun old begun → (rest : List Lexed) (spot : Spot) → IsRefusedAt new.current (items (after begun) rest) spot → IsRefusedAt old.current (items begun (here ∷ rest)) spot)
+    (made : List (List PlacedPart)) (modules : new.modules.items ≡ old.modules.items ++ made)
+    (makes : (begun : List Token) → HasBegun old begun → (rest : List Lexed) (more : List (List PlacedPart)) → AreModules new.current (items (after begun) rest) more → AreModules old.current (items begun (here ∷ rest)) (made ++ more)) where
+  reads_on : ReadsOn old (here ∷ []) new
+  reads_on lexed to = record {
+    begun = after to.begun;
+    has_begun = begins to.begun to.has_begun;
+    refused = λ rest spot r.
+        subst (λ (all : List Item). IsRefusedAt new_module all spot) (all_behind lexed rest here) (to.refused (here ∷ rest) spot (refuses to.begun to.has_begun rest spot r));
+    modules = λ rest more m.
+        let all = to.modules (here ∷ rest) (made ++ more) (makes to.begun to.has_begun rest more m) in
+        let regrouped : old.modules.items ++ (made ++ more) ≡ new.modules.items ++ more = sym (append_assoc old.modules.items made more) ∙ ap (λ (front : List (List PlacedPart)). front ++ more) (sym modules) in
+        subst (λ (front : List (List PlacedPart)). AreModules new_module (items [] ((lexed ++ here ∷ []) ++ rest)) front) regrouped
+        (subst (λ (all : List Item). AreModules new_module all (old.modules.items ++ (made ++ more))) (all_behind lexed rest here) all);
+  }
 
--- a statement is refused at its `;`
-pub statement_refused : (old : Reader) (t : Token) (error : ProgramError) → is_semicolon t ≡ true → ((begun : List Token) → HasBegun old begun → IsRefusedItem old.statements.items (statement begun) error) → Refuses old (token t ∷ []) error
-statement_refused old t Memory e h = tt
-statement_refused old t (BadSyntax spot) e h = λ lexed rest to.
-    let here : items to.begun (token t ∷ rest) ≡ statement to.begun ∷ items [] rest = rw e refl in
-    subst (λ (all : List Item). IsRefusedAt [] all spot) (all_behind lexed rest (token t)) (to.refused (token t ∷ rest) spot (subst (λ (all : List Item). IsRefusedAt old.statements.items all spot) (sym here) (inl (h to.begun to.has_begun))))
+same_modules : (new old : List (List PlacedPart)) → new ≡ old → new ≡ old ++ []
+same_modules new old e = e ∙ sym (append-nil old)
 
-module _ (old new : Reader) (t : Token) (e : is_semicolon t ≡ false) (h : (begun : List Token) → HasBegun old begun → HasBegun new (begun ++ t ∷ []))
-    (statements : new.statements.items ≡ old.statements.items) (modules : new.modules.items ≡ old.modules.items) where
-  -- a further token of a statement
-  pub goes_on : ReadsOn old (token t ∷ []) new
-  goes_on lexed to =
-      let on : (rest : List Lexed) → items (to.begun ++ t ∷ []) rest ≡ items to.begun (token t ∷ rest) = λ rest. rw e refl in
-      record {
-        begun = to.begun ++ t ∷ [];
-        has_begun = h to.begun to.has_begun;
-        refused = λ rest spot r.
-            let here = subst (λ (begun : List Placed). IsRefusedAt begun (items to.begun (token t ∷ rest)) spot) statements (subst (λ (all : List Item). IsRefusedAt new.statements.items all spot) (on rest) r) in
-            subst (λ (all : List Item). IsRefusedAt [] all spot) (all_behind lexed rest (token t)) (to.refused (token t ∷ rest) spot here);
-        modules = λ rest more m.
-            let here = subst (λ (begun : List Placed). AreModules begun (items to.begun (token t ∷ rest)) more) statements (subst (λ (all : List Item). AreModules new.statements.items all more) (on rest) m) in
-            let all = to.modules (token t ∷ rest) more here in
-            subst (λ (made : List (List Placed)). AreModules [] (items [] ((lexed ++ token t ∷ []) ++ rest)) (made ++ more)) (sym modules)
-            (subst (λ (all : List Item). AreModules [] all (old.modules.items ++ more)) (all_behind lexed rest (token t)) all);
-      }
+-- behind a `;`
+pub ends_statement : (old new : Reader) (t : Token) → is_semicolon t ≡ true → EndsStatement old new → ReadsOn old (token t ∷ []) new
+ends_statement old new t e h = reads_on old new (token t) (λ begun. []) (λ begun k. h.has_begun)
+    (λ begun k rest spot r. subst (λ (all : List Item). IsRefusedAt old.current all spot) (sym (behind begun rest)) (refused_on (statement begun) (items [] rest) old.current new.current spot refl (h.goes_on begun k) r))
+    [] (same_modules new.modules.items old.modules.items h.modules)
+    (λ begun k rest more m. subst (λ (all : List Item). AreModules old.current all more) (sym (behind begun rest)) (modules_on (statement begun) (items [] rest) old.current new.current more refl (h.goes_on begun k) m))
+  where
+    behind : (begun : List Token) (rest : List Lexed) → items begun (token t ∷ rest) ≡ statement begun ∷ items [] rest
+    behind begun rest = rw e refl
 
--- what is begun begins where what is kept of it does
-pub first_begun : (tokens begun : List Token) (right_side : Option RightSide) → AreBegun tokens right_side begun → first_spot begun ≡ first_spot tokens
-first_begun tokens begun None h = ap first_spot h
-first_begun [] begun (Some r) h = absurd (let f = h.front in cc)
-first_begun (t ∷ ts) begun (Some r) h = ap first_spot h.all
+-- a further token of a statement
+pub goes_on : (old new : Reader) (t : Token) → is_semicolon t ≡ false → ((begun : List Token) → HasBegun old begun → HasBegun new (begun ++ t ∷ [])) → new.current ≡ old.current → new.modules.items ≡ old.modules.items → ReadsOn old (token t ∷ []) new
+goes_on old new t e h current modules = reads_on old new (token t) (λ begun. begun ++ t ∷ []) h
+    (λ begun k rest spot r. subst (λ (b : Unfinished). IsRefusedAt b (items begun (token t ∷ rest)) spot) current (subst (λ (all : List Item). IsRefusedAt new.current all spot) (on begun rest) r))
+    [] (same_modules new.modules.items old.modules.items modules)
+    (λ begun k rest more m. subst (λ (b : Unfinished). AreModules b (items begun (token t ∷ rest)) more) current (subst (λ (all : List Item). AreModules new.current all more) (on begun rest) m))
+  where
+    on : (begun : List Token) (rest : List Lexed) → items (begun ++ t ∷ []) rest ≡ items begun (token t ∷ rest)
+    on begun rest = rw e refl
 
--- and may stand where that may
-pub may_stand_begun : (before : List Placed) (tokens begun : List Token) (right_side : Option RightSide) → AreBegun tokens right_side begun → may_stand before begun ≡ may_stand before tokens
-may_stand_begun before tokens begun None h = ap (may_stand before) h
-may_stand_begun before [] begun (Some r) h = absurd (let f = h.front in cc)
-may_stand_begun before (t ∷ ts) begun (Some r) h = ap (may_stand before) h.all
+-- or it ends the module
+pub module_ends : (old left new : Reader) (line : PlacedLine) → LeavesStatement old left → is_module_instruction line.text ≡ true → EndsModule left new → ReadsOn old (period line ∷ []) new
+module_ends old left new line h is ends = reads_on old new (period line) (λ begun. []) (λ begun k. ends.has_begun [] h.has_begun)
+    (λ begun k rest spot r. refused_left begun (instruction line ∷ items [] rest) old.current left.current spot (h.goes_on begun k)
+    (refused rest spot (subst (λ (b : Unfinished). IsRefusedAt b (items [] rest) spot) ends.next r)))
+    (parts_grown left.current.statements ∷ []) (ends.modules ∙ ap (λ (front : List (List PlacedPart)). front ++ parts_grown left.current.statements ∷ []) h.modules)
+    (λ begun k rest more m. modules_left begun (instruction line ∷ items [] rest) old.current left.current (parts_grown left.current.statements ∷ more) (h.goes_on begun k)
+    (makes rest more (subst (λ (b : Unfinished). AreModules b (items [] rest) more) ends.next m)))
+  where
+    refused : (rest : List Lexed) (spot : Spot) → IsRefusedAt new_module (items [] rest) spot → IsRefusedAt left.current (instruction line ∷ items [] rest) spot
+    refused rest spot r = rw is (inr (ends.fine, r))
 
-none_begun : (tokens : List Token) → None ≡ first_spot tokens → tokens ≡ []
-none_begun [] e = refl
-none_begun (t ∷ ts) e = cc
+    makes : (rest : List Lexed) (more : List (List PlacedPart)) → AreModules new_module (items [] rest) more → AreModules left.current (instruction line ∷ items [] rest) (parts_grown left.current.statements ∷ more)
+    makes rest more m = rw is (ends.fine, more, refl, m)
 
-module _ (old : Reader) (line : PlacedLine) (none : None ≡ first_spot old.tokens.items) where
-  no_begun : (begun : List Token) → HasBegun old begun → begun ≡ []
-  no_begun begun h = none_begun begun (none ∙ sym (first_begun old.tokens.items begun old.right_side h))
-
-  -- or where it is no instruction
-  pub instruction_refused : (IsTrue (is_module_instruction line.text) → ⊥) → Refuses old (period line ∷ []) (BadSyntax line.spot)
-  instruction_refused wrong lexed rest to =
-      let here : items to.begun (period line ∷ rest) ≡ instruction line ∷ items [] rest = ap (λ (begun : List Token). items begun (period line ∷ rest)) (no_begun to.begun to.has_begun) in
-      subst (λ (all : List Item). IsRefusedAt [] all line.spot) (all_behind lexed rest (period line))
-      (to.refused (period line ∷ rest) line.spot (subst (λ (all : List Item). IsRefusedAt old.statements.items all line.spot) (sym here) (inl ((λ g. wrong g.1.0), refl))))
-
-  -- and else ends the module
-  pub module_ends : (new : Reader) → IsTrue (is_module_instruction line.text) → ((begun : List Token) → HasBegun old begun → HasBegun new begun) → new.statements.items ≡ [] → new.modules.items ≡ old.modules.items ++ old.statements.items ∷ [] → ReadsOn old (period line ∷ []) new
-  module_ends new is kept statements modules lexed to =
-      let here : (rest : List Lexed) → items to.begun (period line ∷ rest) ≡ instruction line ∷ items [] rest = λ rest. ap (λ (begun : List Token). items begun (period line ∷ rest)) (no_begun to.begun to.has_begun) in
-      record {
-        begun = [];
-        has_begun = subst (λ (begun : List Token). HasBegun new begun) (no_begun to.begun to.has_begun) (kept to.begun to.has_begun);
-        refused = λ rest spot r.
-            let behind : IsRefusedAt old.statements.items (instruction line ∷ items [] rest) spot = inr (new.statements.items, (is, statements), r) in
-            subst (λ (all : List Item). IsRefusedAt [] all spot) (all_behind lexed rest (period line))
-            (to.refused (period line ∷ rest) spot (subst (λ (all : List Item). IsRefusedAt old.statements.items all spot) (sym (here rest)) behind));
-        modules = λ rest more m.
-            let others = subst (λ (begun : List Placed). AreModules begun (items [] rest) more) statements m in
-            let ended : AreModules old.statements.items (instruction line ∷ items [] rest) (old.statements.items ∷ more) = (is, more, refl, others) in
-            let all = to.modules (period line ∷ rest) (old.statements.items ∷ more) (subst (λ (all : List Item). AreModules old.statements.items all (old.statements.items ∷ more)) (sym (here rest)) ended) in
-            let regrouped : old.modules.items ++ old.statements.items ∷ more ≡ new.modules.items ++ more = sym (append_assoc old.modules.items (old.statements.items ∷ []) more) ∙ ap (λ (made : List (List Placed)). made ++ more) (sym modules) in
-            subst (λ (made : List (List Placed)). AreModules [] (items [] ((lexed ++ period line ∷ []) ++ rest)) made) regrouped
-            (subst (λ (all : List Item). AreModules [] all (old.modules.items ++ old.statements.items ∷ more)) (all_behind lexed rest (period line)) all);
-      }
+pub instruction_ends : {T : Type 0} (r : Result T ProgramError) (old left new : Reader) (line : PlacedLine) → LeavesStatement old left → is_module_instruction line.text ≡ true → OnOk r (EndsModule left new) → OnOk r (ReadsOn old (period line ∷ []) new)
+instruction_ends (Ok x) old left new line h is ends = module_ends old left new line h is ends
+instruction_ends (Err error) old left new line h is ends = tt
 
 module _ {T : Type 0} (r : Result T ProgramError) (old new : Reader) (line : PlacedLine) (e : begins_with_period line.text ≡ true) where
   is_period : IsLexed line (period line ∷ [])
@@ -161,7 +128,7 @@ pub refused_among : (old read : Reader) (line : PlacedLine) (tokens front others
     → ReadsOn old (map token front) read → Refuses read (token t ∷ []) error → RefusesLine old line error
 refused_among old read line tokens front others t Memory e is on r = tt
 refused_among old read line tokens front others t (BadSyntax spot) e is on r =
-    (map token tokens, is, λ lexed rest to. subst (λ (all : List Lexed). IsRefusedAt [] (items [] all) spot) (regrouped lexed rest) (r (lexed ++ map token front) (map token others ++ rest) (on lexed to))) where
+    (map token tokens, is, λ lexed rest to. subst (λ (all : List Lexed). IsRefusedAt new_module (items [] all) spot) (regrouped lexed rest) (r (lexed ++ map token front) (map token others ++ rest) (on lexed to))) where
       regrouped : (lexed rest : List Lexed) → ((lexed ++ map token front) ++ token t ∷ []) ++ (map token others ++ rest) ≡ (lexed ++ map token tokens) ++ rest
       regrouped lexed rest = joined lexed (map token front) (map token others) rest (token t)
           ∙ ap (λ (all : List Lexed). (lexed ++ all) ++ rest) (sym (map-append token front (t ∷ others)) ∙ ap (map token) e)

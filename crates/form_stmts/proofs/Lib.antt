@@ -5,11 +5,16 @@ pub mod Excluded
 pub mod Fronts
 pub mod Going
 pub mod Lawfulness
+pub mod Lined
 pub mod Lines
 pub mod Listed
 pub mod Members
+pub mod Modules
+pub mod Pickings
 pub mod Reading
 pub mod Rewritten
+pub mod Summed
+pub mod Taking
 pub mod Trees
 pub mod Unique
 pub mod Words

@@ -1,5 +1,5 @@
 -- Lines one after another, up to their end or to one at which something is refused.
-use Rattle.std.proofs.Common.{◌≡◌, ℕ, Bool, true, false, List, [], ◌∷◌, ◌++◌, map, refl, sym, ap, subst, ◌∙◌, append_assoc, arith}
+use Rattle.std.proofs.Common.{◌≡◌, ℕ, Bool, true, false, Option, Some, None, List, [], ◌∷◌, ◌++◌, map, refl, sym, ap, subst, ◌∙◌, append_assoc, arith}
 use Rattle.std.specs.Vec.Iter.{into_iter_items, into_iter_len}
 use Rattle.std.specs.declared.vec.IntoIter.{IntoIter}
 use Rattle.std.proofs.lemmas.List.{append-nil, nil_from_length}
@@ -8,14 +8,17 @@ use Rattle.form_base.specs.declared.spot.Spot.{Spot}
 use Rattle.form_stmts.specs.Line.{PlacedLine}
 use Rattle.form_lexer.specs.declared.token.Token.{Token}
 use Rattle.form_lexer.specs.Tokens.{AreTokens}
-use Rattle.form_ast.specs.declared.statement.Placed.{Placed}
+use Rattle.form_ast.specs.declared.module.PlacedPart.{PlacedPart}
 use Rattle.form_ast.specs.Lawful.{AreLawfulModules}
 use Rattle.form_stmts.specs.declared.error.ProgramError.{ProgramError}
 use Rattle.form_stmts.specs.declared.error.ProgramError.TheVariants.{BadSyntax, Memory}
 use Rattle.form_stmts.specs.declared.program.Reader.{Reader}
 use Rattle.form_stmts.specs.Instruction.{begins_with_period}
-use Rattle.form_stmts.specs.Program.{Lexed, token, period, items, AreLexed, IsLexed, IsRefusedAt, IsRefusal, IsProgram, AreModules}
+use Rattle.form_blocks.specs.Blocks.{fault_at_end, new_module}
+use Rattle.form_blocks.specs.declared.open.Fault.{Fault}
+use Rattle.form_stmts.specs.Program.{Lexed, token, period, items, AreLexed, IsLexed, IsRefusedAt, IsRefusedHere, IsRefusal, IsProgram, AreModules}
 use Rattle.form_stmts.specs.Progress.{ReadTo, RefusesLine, ReadsOn}
+use Rattle.form_blocks.proofs.Sound.{new_sound}
 use Rattle.form_stmts.proofs.Lawfulness.{lawful_modules}
 
 pub nothing_left : {X Z : Type 0} (it : IntoIter X Z) → into_iter_len it ≡ 0 → into_iter_items it ≡ []
@@ -57,23 +60,36 @@ refused_at_line some lines done others line reader (BadSyntax spot) e read r =
     record {
       lexed = read.0 ++ (r.0 ++ rest.0);
       are_lexed = subst (λ (all : List PlacedLine). AreLexed all (read.0 ++ (r.0 ++ rest.0))) e (lexed_append done (line ∷ others) read.0 (r.0 ++ rest.0) read.1 (r.0, r.1, rest.0, rest.1, refl));
-      refused = subst (λ (all : List Lexed). IsRefusedAt [] (items [] all) spot) (append_assoc read.0 r.0 rest.0) (r.2 read.0 rest.0 read.2);
+      refused = subst (λ (all : List Lexed). IsRefusedAt new_module (items [] all) spot) (append_assoc read.0 r.0 rest.0) (r.2 read.0 rest.0 read.2);
     }
 
--- the modules of what was read
-modules_read : (lexed : List Lexed) (reader : Reader) → ReadTo lexed reader → AreModules [] (items [] lexed) reader.modules.items
-modules_read lexed reader to =
-    subst (λ (modules : List (List Placed)). AreModules [] (items [] lexed) modules) (append-nil reader.modules.items)
-    (subst (λ (all : List Lexed). AreModules [] (items [] all) (reader.modules.items ++ [])) (append-nil lexed) (to.modules [] [] refl))
+-- the modules of what was read, of the last of which nothing is refused
+modules_read : (lexed : List Lexed) (reader : Reader) → fault_at_end reader.current ≡ None → ReadTo lexed reader → AreModules new_module (items [] lexed) reader.modules.items
+modules_read lexed reader fine to =
+    subst (λ (modules : List (List PlacedPart)). AreModules new_module (items [] lexed) modules) (append-nil reader.modules.items)
+    (subst (λ (all : List Lexed). AreModules new_module (items [] all) (reader.modules.items ++ [])) (append-nil lexed) (to.modules [] [] (fine, refl)))
 
-pub program_read : (lines done rest : List PlacedLine) (reader : Reader) → done ++ rest ≡ lines → rest ≡ [] → ((lexed : List Lexed) × AreLexed done lexed × ReadTo lexed reader) → IsProgram lines reader.modules.items
-program_read lines done rest reader e n read =
-    let all : done ≡ lines = sym (append-nil done) ∙ ap (λ (r : List PlacedLine). done ++ r) (sym n) ∙ e in
-    record {
-      lexed = read.0;
-      are_lexed = subst (λ (l : List PlacedLine). AreLexed l read.0) all read.1;
-      are_modules = modules_read read.0 reader read.2;
-    }
+-- all lines are read
+all_read : (lines done rest : List PlacedLine) → done ++ rest ≡ lines → rest ≡ [] → done ≡ lines
+all_read lines done rest e n = sym (append-nil done) ∙ ap (λ (r : List PlacedLine). done ++ r) (sym n) ∙ e
 
-pub lawful_read : (lines : List PlacedLine) (modules : List (List Placed)) → IsProgram lines modules → AreLawfulModules modules
-lawful_read lines modules h = lawful_modules (items [] h.lexed) [] modules (All-nil _) h.are_modules
+pub program_read : (lines done rest : List PlacedLine) (reader : Reader) → done ++ rest ≡ lines → rest ≡ [] → fault_at_end reader.current ≡ None → ((lexed : List Lexed) × AreLexed done lexed × ReadTo lexed reader) → IsProgram lines reader.modules.items
+program_read lines done rest reader e n fine read = record {
+  lexed = read.0;
+  are_lexed = subst (λ (l : List PlacedLine). AreLexed l read.0) (all_read lines done rest e n) read.1;
+  are_modules = modules_read read.0 reader fine read.2;
+}
+
+pub refused_here : (o : Option Fault) (f : Fault) (spot : Spot) → o ≡ Some f → spot ≡ f.spot → IsRefusedHere o spot
+refused_here o f spot e k = subst (λ (x : Option Fault). IsRefusedHere x spot) (sym e) (sym k)
+
+-- what stands behind the last instruction is refused
+pub refused_read : (lines done rest : List PlacedLine) (reader : Reader) (spot : Spot) → done ++ rest ≡ lines → rest ≡ [] → IsRefusedHere (fault_at_end reader.current) spot → ((lexed : List Lexed) × AreLexed done lexed × ReadTo lexed reader) → IsRefusal (BadSyntax spot) lines
+refused_read lines done rest reader spot e n here read = record {
+  lexed = read.0;
+  are_lexed = subst (λ (l : List PlacedLine). AreLexed l read.0) (all_read lines done rest e n) read.1;
+  refused = subst (λ (all : List Lexed). IsRefusedAt new_module (items [] all) spot) (append-nil read.0) (read.2.refused [] spot here);
+}
+
+pub lawful_read : (lines : List PlacedLine) (modules : List (List PlacedPart)) → IsProgram lines modules → AreLawfulModules modules
+lawful_read lines modules h = lawful_modules (items [] h.lexed) new_module modules (All-nil _) new_sound h.are_modules

@@ -94,6 +94,9 @@ mutual
   after_name (by_terminal.OpenBrace ∷ rest) names numbers out e = absurd cc
   after_name (by_terminal.CloseBrace ∷ rest) names numbers out e = absurd cc
   after_name (by_terminal.Colon ∷ rest) names numbers out e = absurd cc
+  after_name (by_terminal.And ∷ rest) names numbers out e = absurd cc
+  after_name (by_terminal.Or ∷ rest) names numbers out e = absurd cc
+  after_name ((by_terminal.Comparison m) ∷ rest) names numbers out e = absurd cc
   after_name (by_terminal.Other ∷ rest) names numbers out e = absurd cc
 
   behind_name : (terminals : List Terminal) (names : List Spelled) (numbers : List SignedNumber) (out : WrittenElements) → elements_from place.BehindName names numbers terminals ≡ Some out → AreFurtherNames names (by_terminal.Comma ∷ terminals) out
@@ -115,6 +118,9 @@ mutual
   behind_name (by_terminal.OpenBrace ∷ rest) names numbers out e = absurd cc
   behind_name (by_terminal.CloseBrace ∷ rest) names numbers out e = absurd cc
   behind_name (by_terminal.Colon ∷ rest) names numbers out e = absurd cc
+  behind_name (by_terminal.And ∷ rest) names numbers out e = absurd cc
+  behind_name (by_terminal.Or ∷ rest) names numbers out e = absurd cc
+  behind_name ((by_terminal.Comparison m) ∷ rest) names numbers out e = absurd cc
   behind_name (by_terminal.Other ∷ rest) names numbers out e = absurd cc
 
 mutual
@@ -144,6 +150,9 @@ mutual
   after_number (by_terminal.OpenBrace ∷ rest) names numbers out e = absurd cc
   after_number (by_terminal.CloseBrace ∷ rest) names numbers out e = absurd cc
   after_number (by_terminal.Colon ∷ rest) names numbers out e = absurd cc
+  after_number (by_terminal.And ∷ rest) names numbers out e = absurd cc
+  after_number (by_terminal.Or ∷ rest) names numbers out e = absurd cc
+  after_number ((by_terminal.Comparison m) ∷ rest) names numbers out e = absurd cc
   after_number (by_terminal.Other ∷ rest) names numbers out e = absurd cc
 
   behind_number : (terminals : List Terminal) (names : List Spelled) (numbers : List SignedNumber) (out : WrittenElements) → elements_from place.BehindNumber names numbers terminals ≡ Some out → AreFurtherNumbers numbers (by_terminal.Comma ∷ terminals) out
@@ -167,6 +176,9 @@ mutual
   behind_number (by_terminal.OpenBrace ∷ rest) names numbers out e = absurd cc
   behind_number (by_terminal.CloseBrace ∷ rest) names numbers out e = absurd cc
   behind_number (by_terminal.Colon ∷ rest) names numbers out e = absurd cc
+  behind_number (by_terminal.And ∷ rest) names numbers out e = absurd cc
+  behind_number (by_terminal.Or ∷ rest) names numbers out e = absurd cc
+  behind_number ((by_terminal.Comparison m) ∷ rest) names numbers out e = absurd cc
   behind_number (by_terminal.Other ∷ rest) names numbers out e = absurd cc
 
   after_sign : (terminals : List Terminal) (sign : Sign) (names : List Spelled) (numbers : List SignedNumber) (out : WrittenElements) → elements_from (place.Sign sign) names numbers terminals ≡ Some out
@@ -190,6 +202,9 @@ mutual
   after_sign (by_terminal.OpenBrace ∷ rest) sign names numbers out e = absurd cc
   after_sign (by_terminal.CloseBrace ∷ rest) sign names numbers out e = absurd cc
   after_sign (by_terminal.Colon ∷ rest) sign names numbers out e = absurd cc
+  after_sign (by_terminal.And ∷ rest) sign names numbers out e = absurd cc
+  after_sign (by_terminal.Or ∷ rest) sign names numbers out e = absurd cc
+  after_sign ((by_terminal.Comparison m) ∷ rest) sign names numbers out e = absurd cc
   after_sign (by_terminal.Other ∷ rest) sign names numbers out e = absurd cc
 
 abbrev behind_first : List Terminal → List Terminal
@@ -229,6 +244,9 @@ elements_sound (by_terminal.Question ∷ rest) out e = absurd cc
 elements_sound (by_terminal.OpenBrace ∷ rest) out e = absurd cc
 elements_sound (by_terminal.CloseBrace ∷ rest) out e = absurd cc
 elements_sound (by_terminal.Colon ∷ rest) out e = absurd cc
+elements_sound (by_terminal.And ∷ rest) out e = absurd cc
+elements_sound (by_terminal.Or ∷ rest) out e = absurd cc
+elements_sound ((by_terminal.Comparison m) ∷ rest) out e = absurd cc
 elements_sound (by_terminal.Other ∷ rest) out e = absurd cc
 
 -- ---- what is written so is read

@@ -1,5 +1,5 @@
 -- Lines are a program in one way, or refused at one spot, and one of the two.
-use Rattle.std.proofs.Common.{◌≡◌, ◌⊎◌, inl, inr, ℕ, Bool, true, false, List, [], ◌∷◌, ◌++◌, map, Option, Some, None, refl, sym, ap, subst, ◌∙◌}
+use Rattle.std.proofs.Common.{◌≡◌, inl, inr, ℕ, Bool, true, false, List, [], ◌∷◌, ◌++◌, map, Option, Some, None, refl, sym, ap, subst, ◌∙◌}
 use Rattle.std.specs.Prelude.{MatchBool}
 use Rattle.std.proofs.lemmas.Option.{same_Some, none-some}
 use Rattle.form_base.specs.declared.spot.Spot.{Spot}
@@ -10,90 +10,43 @@ use Rattle.form_ast.specs.declared.expr.Spelled.{Spelled}
 use Rattle.form_ast.specs.declared.expr.Piece.{Piece}
 use Rattle.form_ast.specs.declared.statement.Statement.{Statement}
 use Rattle.form_ast.specs.declared.statement.Statement.TheVariants as statements
-use Rattle.form_ast.specs.declared.statement.Placed.{Placed}
 use Rattle.form_ast.specs.declared.statement.WrittenElements.{WrittenElements}
 use Rattle.form_grammar.specs.Grammar.{IsExpr}
-use Rattle.form_grammar.specs.Terminal.{terminal_of}
 use Rattle.form_grammar.specs.declared.terminal.Terminal.{Terminal}
 use Rattle.form_grammar.specs.declared.terminal.Terminal.TheVariants as by_terminal
 use Rattle.form_stmts.specs.declared.keyword.Keyword as keywords
-use Rattle.form_stmts.specs.declared.keyword.Keyword.TheVariants.{Names, Indices, Switch, Set, Drop, Skip, Local, Id, Also, Print}
+use Rattle.form_stmts.specs.declared.keyword.Keyword.TheVariants.{Names, Indices, Switch, Set, Drop, Skip, Local, Id, Also, Multiply, Discard, Repeat, EndRepeat, Else, EndIf, EndArgument, Print}
 use Rattle.form_stmts.specs.declared.keyword.Keyword.TheVariants as keyword
-use Rattle.form_stmts.specs.Instruction.{begins_with_period, is_module_instruction}
+use Rattle.form_conditions.specs.Grammar.{IsConditionText}
+use Rattle.form_stmts.specs.Instruction.{begins_with_period}
 use Rattle.form_stmts.specs.Keyword.{keyword_of}
 use Rattle.form_stmts.specs.Reading.{front_name, after_equals, after_colon}
-use Rattle.form_stmts.specs.Statement.{AreNames, AreNamesOrNone, AreIndices, IsDimension, AreElements, IsDefinition, IsSet, FollowsKeyword, IsStatement}
-use Rattle.form_stmts.specs.Program.{Lexed, token, period, Item, statement, unfinished, instruction, may_stand, IsLexed, AreLexed, LeadsTo, StandsAt, IsRefusedAt, AreModules}
+use Rattle.form_stmts.specs.Statement.{AreNames, AreNamesOrNone, AreIndices, IsDimension, AreElements, ArePicked, IsAlone, IsDefinition, IsSet, FollowsKeyword, IsStatement, behind_side, or_right, side_at}
+use Rattle.form_stmts.specs.Program.{Lexed, token, period, IsLexed, AreLexed}
 use Rattle.form_stmts.proofs.Listed.{one_list, one_list_or_none, names_or_not, names_or_none_or_not}
 use Rattle.form_stmts.proofs.Excluded.{right_side, elements_behind}
 use Rattle.form_stmts.proofs.Declared.{one_indices, one_dimension, indices_or_not, dimension_or_not, switch_or_not}
 use Rattle.form_stmts.proofs.Either.{IsOrNot, IsOne}
 use Rattle.form_stmts.proofs.Members.{one_elements, elements_or_not}
+use Rattle.form_stmts.proofs.Pickings.{one_choice, picked_or_not}
 use Rattle.form_stmts.proofs.Rewritten.{one_rewrite, rewrite_or_not}
-use Rattle.form_stmts.proofs.Trees.{TreeLaws}
+use Rattle.form_stmts.proofs.Summed.{one_sum, sum_or_not}
+use Rattle.form_stmts.proofs.Trees.{GrammarLaws, TreeLaws}
 
 front_name_is : (terminals : List Terminal) (x : Spelled × List Terminal) → front_name terminals ≡ Some x → terminals ≡ by_terminal.Name x.0 ∷ x.1
 front_name_is [] x e = absurd cc
 front_name_is (by_terminal.Name n ∷ rest) x e = let made : Spelled × List Terminal = (n, rest) in ap (λ (y : Spelled × List Terminal). by_terminal.Name y.0 ∷ y.1) (same_Some made x e)
-front_name_is (by_terminal.Number n ∷ rest) x e = absurd cc
-front_name_is (by_terminal.Sign n ∷ rest) x e = absurd cc
-front_name_is (by_terminal.Times ∷ rest) x e = absurd cc
-front_name_is (by_terminal.Over ∷ rest) x e = absurd cc
-front_name_is (by_terminal.Raise ∷ rest) x e = absurd cc
-front_name_is (by_terminal.Open ∷ rest) x e = absurd cc
-front_name_is (by_terminal.Close ∷ rest) x e = absurd cc
-front_name_is (by_terminal.Comma ∷ rest) x e = absurd cc
-front_name_is (by_terminal.Equals ∷ rest) x e = absurd cc
-front_name_is (by_terminal.Other ∷ rest) x e = absurd cc
-front_name_is (by_terminal.Question ∷ rest) x e = absurd cc
-front_name_is (by_terminal.OpenBrace ∷ rest) x e = absurd cc
-front_name_is (by_terminal.CloseBrace ∷ rest) x e = absurd cc
-front_name_is (by_terminal.Colon ∷ rest) x e = absurd cc
-front_name_is (by_terminal.Imaginary n ∷ rest) x e = absurd cc
-front_name_is (by_terminal.Delta n ∷ rest) x e = absurd cc
-front_name_is (by_terminal.Period ∷ rest) x e = absurd cc
+front_name_is (_ ∷ rest) x e = absurd cc
 
 after_equals_is : (terminals rest : List Terminal) → after_equals terminals ≡ Some rest → terminals ≡ by_terminal.Equals ∷ rest
 after_equals_is [] rest e = absurd cc
 after_equals_is (by_terminal.Equals ∷ others) rest e = ap (λ (r : List Terminal). by_terminal.Equals ∷ r) (same_Some others rest e)
-after_equals_is (by_terminal.Name n ∷ others) rest e = absurd cc
-after_equals_is (by_terminal.Number n ∷ others) rest e = absurd cc
-after_equals_is (by_terminal.Sign n ∷ others) rest e = absurd cc
-after_equals_is (by_terminal.Times ∷ others) rest e = absurd cc
-after_equals_is (by_terminal.Over ∷ others) rest e = absurd cc
-after_equals_is (by_terminal.Raise ∷ others) rest e = absurd cc
-after_equals_is (by_terminal.Open ∷ others) rest e = absurd cc
-after_equals_is (by_terminal.Close ∷ others) rest e = absurd cc
-after_equals_is (by_terminal.Comma ∷ others) rest e = absurd cc
-after_equals_is (by_terminal.Other ∷ others) rest e = absurd cc
-after_equals_is (by_terminal.Question ∷ others) rest e = absurd cc
-after_equals_is (by_terminal.OpenBrace ∷ others) rest e = absurd cc
-after_equals_is (by_terminal.CloseBrace ∷ others) rest e = absurd cc
-after_equals_is (by_terminal.Colon ∷ others) rest e = absurd cc
-after_equals_is (by_terminal.Imaginary n ∷ others) rest e = absurd cc
-after_equals_is (by_terminal.Delta n ∷ others) rest e = absurd cc
-after_equals_is (by_terminal.Period ∷ others) rest e = absurd cc
+after_equals_is (_ ∷ others) rest e = absurd cc
 
 after_colon_is : (terminals rest : List Terminal) → after_colon terminals ≡ Some rest → terminals ≡ by_terminal.Colon ∷ rest
 after_colon_is [] rest e = absurd cc
 after_colon_is (by_terminal.Colon ∷ others) rest e = ap (λ (r : List Terminal). by_terminal.Colon ∷ r) (same_Some others rest e)
-after_colon_is (by_terminal.Name n ∷ others) rest e = absurd cc
-after_colon_is (by_terminal.Number n ∷ others) rest e = absurd cc
-after_colon_is (by_terminal.Sign n ∷ others) rest e = absurd cc
-after_colon_is (by_terminal.Times ∷ others) rest e = absurd cc
-after_colon_is (by_terminal.Over ∷ others) rest e = absurd cc
-after_colon_is (by_terminal.Raise ∷ others) rest e = absurd cc
-after_colon_is (by_terminal.Open ∷ others) rest e = absurd cc
-after_colon_is (by_terminal.Close ∷ others) rest e = absurd cc
-after_colon_is (by_terminal.Comma ∷ others) rest e = absurd cc
-after_colon_is (by_terminal.Other ∷ others) rest e = absurd cc
-after_colon_is (by_terminal.Question ∷ others) rest e = absurd cc
-after_colon_is (by_terminal.OpenBrace ∷ others) rest e = absurd cc
-after_colon_is (by_terminal.CloseBrace ∷ others) rest e = absurd cc
-after_colon_is (by_terminal.Equals ∷ others) rest e = absurd cc
-after_colon_is (by_terminal.Imaginary n ∷ others) rest e = absurd cc
-after_colon_is (by_terminal.Delta n ∷ others) rest e = absurd cc
-after_colon_is (by_terminal.Period ∷ others) rest e = absurd cc
+after_colon_is (_ ∷ others) rest e = absurd cc
 
 behind_name : (terminals rest : List Terminal) (name other : Spelled) (others : List Terminal) → front_name terminals ≡ Some (name, rest) → terminals ≡ by_terminal.Name other ∷ others → rest ≡ others
 behind_name terminals rest name other others e f =
@@ -139,7 +92,14 @@ set_or_not terminals = by_name (front_name terminals) refl where
   by_name None e = inr (λ s h. none-some (h.name, by_terminal.Colon ∷ h.rest) (sym e ∙ ap front_name h.written))
   by_name (Some x) e = by_colon x.0 x.1 e (after_colon x.1) refl
 
-module _ (laws : TreeLaws) where
+alone_or_not : (s : Statement) (terminals : List Terminal) → IsOrNot (IsAlone s terminals)
+alone_or_not s [] = inl (s, (refl, refl))
+alone_or_not s (t ∷ ts) = inr (λ x h. let w = h.0 in cc)
+
+module _ (grammar : GrammarLaws) where
+  laws : TreeLaws
+  laws = grammar.trees
+
   one_definition : (terminals : List Terminal) → IsOne (IsDefinition terminals)
   one_definition terminals s t h k =
       let here : Spelled × List Terminal = (h.name, by_terminal.Equals ∷ h.rest) in
@@ -161,6 +121,17 @@ module _ (laws : TreeLaws) where
   one_behind Local terminals s t h k = one_definition terminals s t h k
   one_behind Id terminals s t h k = one_rewrite false terminals laws s t h k
   one_behind Also terminals s t h k = one_rewrite true terminals laws s t h k
+  one_behind Multiply terminals s t h k = h.kept ∙ ap (statements.Multiply (or_right (side_at terminals))) (laws.one_expr (behind_side (side_at terminals) terminals) h.pieces k.pieces h.right_side k.right_side) ∙ sym k.kept
+  one_behind keyword.Sum terminals s t h k = one_sum terminals s t h k
+  one_behind Discard terminals s t h k = h.1 ∙ sym k.1
+  one_behind Repeat terminals s t h k = h.1 ∙ sym k.1
+  one_behind EndRepeat terminals s t h k = h.1 ∙ sym k.1
+  one_behind keyword.If terminals s t h k = h.2 ∙ ap statements.If (grammar.conditions.one terminals h.0 k.0 h.1 k.1) ∙ sym k.2
+  one_behind keyword.ElseIf terminals s t h k = h.2 ∙ ap statements.ElseIf (grammar.conditions.one terminals h.0 k.0 h.1 k.1) ∙ sym k.2
+  one_behind Else terminals s t h k = h.1 ∙ sym k.1
+  one_behind EndIf terminals s t h k = h.1 ∙ sym k.1
+  one_behind keyword.Argument terminals s t h k = h.2 ∙ ap statements.Argument (one_choice terminals h.0 k.0 h.1 k.1) ∙ sym k.2
+  one_behind EndArgument terminals s t h k = h.1 ∙ sym k.1
   one_behind Print terminals s t h k = h.2 ∙ ap statements.Print (one_list_or_none terminals h.0 k.0 h.1 k.1) ∙ sym k.2
 
   pub one_statement : (terminals : List Terminal) → IsOne (IsStatement terminals)
@@ -207,6 +178,17 @@ module _ (laws : TreeLaws) where
   behind_or_not Local terminals = definition_or_not terminals
   behind_or_not Id terminals = rewrite_or_not false terminals laws
   behind_or_not Also terminals = rewrite_or_not true terminals laws
+  behind_or_not Multiply terminals = mapped (IsExpr (behind_side (side_at terminals) terminals)) (FollowsKeyword Multiply terminals) (λ p. (statements.Multiply (or_right (side_at terminals)) p.0, record { pieces = p.0; right_side = p.1; kept = refl })) (λ s h. (h.pieces, h.right_side)) (laws.expr_or_not (behind_side (side_at terminals) terminals))
+  behind_or_not keyword.Sum terminals = sum_or_not terminals
+  behind_or_not Discard terminals = alone_or_not statements.Discard terminals
+  behind_or_not Repeat terminals = alone_or_not statements.Repeat terminals
+  behind_or_not EndRepeat terminals = alone_or_not statements.EndRepeat terminals
+  behind_or_not keyword.If terminals = mapped (IsConditionText terminals) (FollowsKeyword keyword.If terminals) (λ p. (statements.If p.0, (p.0, p.1, refl))) (λ s h. (h.0, h.1)) (grammar.conditions.some_or_none terminals)
+  behind_or_not keyword.ElseIf terminals = mapped (IsConditionText terminals) (FollowsKeyword keyword.ElseIf terminals) (λ p. (statements.ElseIf p.0, (p.0, p.1, refl))) (λ s h. (h.0, h.1)) (grammar.conditions.some_or_none terminals)
+  behind_or_not Else terminals = alone_or_not statements.Else terminals
+  behind_or_not EndIf terminals = alone_or_not statements.EndIf terminals
+  behind_or_not keyword.Argument terminals = mapped (ArePicked terminals) (FollowsKeyword keyword.Argument terminals) (λ p. (statements.Argument p.0, (p.0, p.1, refl))) (λ s h. (h.0, h.1)) (picked_or_not terminals)
+  behind_or_not EndArgument terminals = alone_or_not statements.EndArgument terminals
   behind_or_not Print terminals = mapped (AreNamesOrNone terminals) (FollowsKeyword Print terminals) (λ p. (statements.Print p.0, (p.0, p.1, refl))) (λ s h. (h.0, h.1)) (names_or_none_or_not terminals)
 
   pub statement_or_not : (terminals : List Terminal) → IsOrNot (IsStatement terminals)
@@ -234,81 +216,6 @@ module _ (laws : TreeLaws) where
     by_name (Some x) e = by_keyword x.0 x.1 e (keyword_of x.0.name) refl
 
 -- the items, one after another
-module _ (one : (terminals : List Terminal) → IsOne (IsStatement terminals)) (or_not : (terminals : List Terminal) → IsOrNot (IsStatement terminals)) where
-  one_spot : (item : Item) → IsOne (StandsAt item)
-  one_spot (statement []) s t h k = absurd h
-  one_spot (statement (x ∷ xs)) s t h k = sym h ∙ k
-  one_spot (unfinished x xs) s t h k = sym h ∙ k
-  one_spot (instruction line) s t h k = sym h ∙ k
-
-  -- an item leads on to one list of statements
-  one_end : (item : Item) (before : List Placed) → IsOne (LeadsTo item before)
-  one_end (statement []) before a b h k = h ∙ sym k
-  one_end (statement (t ∷ ts)) before a b h k =
-      let same : h.0 ≡ k.0 = one (map terminal_of (t ∷ ts)) h.0 k.0 h.1 k.1 in
-      h.3 ∙ ap (λ (s : Statement). before ++ record { spot = t.spot; statement = s } ∷ []) same ∙ sym k.3
-  one_end (unfinished t ts) before a b h k = absurd h
-  one_end (instruction line) before a b h k = h.1 ∙ sym k.1
-
-  pub one_refusal : (list : List Item) (before : List Placed) → IsOne (IsRefusedAt before list)
-  one_refusal [] before s t h k = absurd h
-  one_refusal (item ∷ list) before s t (inl h) (inl k) = one_spot item s t h.1 k.1
-  one_refusal (item ∷ list) before s t (inl h) (inr k) = absurd (h.0 (k.0, k.1))
-  one_refusal (item ∷ list) before s t (inr h) (inl k) = absurd (k.0 (h.0, h.1))
-  one_refusal (item ∷ list) before s t (inr h) (inr k) =
-      one_refusal list k.0 s t (subst (λ (after : List Placed). IsRefusedAt after list s) (one_end item before h.0 k.0 h.1 k.1) h.2) k.2
-
-  pub never_both : (list : List Item) (begun : List Placed) (modules : List (List Placed)) (spot : Spot) → AreModules begun list modules → IsRefusedAt begun list spot → ⊥
-  never_both [] begun modules spot m r = r
-  never_both (statement [] ∷ list) begun modules spot m (inl r) = r.0 (begun, refl)
-  never_both (statement [] ∷ list) begun modules spot m (inr r) =
-      never_both list begun modules spot m (subst (λ (after : List Placed). IsRefusedAt after list spot) (one_end (statement []) begun r.0 begun r.1 refl) r.2)
-  never_both (statement (x ∷ xs) ∷ list) begun modules spot m (inl r) = r.0 (begun ++ record { spot = x.spot; statement = m.0 } ∷ [], (m.0, m.1, m.2, refl))
-  never_both (statement (x ∷ xs) ∷ list) begun modules spot m (inr r) =
-      let further : List Placed = begun ++ record { spot = x.spot; statement = m.0 } ∷ [] in
-      never_both list further modules spot m.3 (subst (λ (after : List Placed). IsRefusedAt after list spot) (one_end (statement (x ∷ xs)) begun r.0 further r.1 (m.0, m.1, m.2, refl)) r.2)
-  never_both (unfinished x xs ∷ list) begun modules spot m r = m
-  never_both (instruction line ∷ list) begun modules spot m (inl r) = r.0 ([], (m.0, refl))
-  never_both (instruction line ∷ list) begun modules spot m (inr r) =
-      never_both list [] m.1 spot m.3 (subst (λ (after : List Placed). IsRefusedAt after list spot) (one_end (instruction line) begun r.0 [] r.1 (m.0, refl)) r.2)
-
-  pub one_program : (list : List Item) (begun : List Placed) → IsOne (AreModules begun list)
-  one_program [] begun x y h k = h ∙ sym k
-  one_program (statement [] ∷ list) begun x y h k = one_program list begun x y h k
-  one_program (statement (t ∷ ts) ∷ list) begun x y h k =
-      let same : h.0 ≡ k.0 = one (map terminal_of (t ∷ ts)) h.0 k.0 h.1 k.1 in
-      let further : List Placed = begun ++ record { spot = t.spot; statement = k.0 } ∷ [] in
-      one_program list further x y (subst (λ (s : Statement). AreModules (begun ++ record { spot = t.spot; statement = s } ∷ []) list x) same h.3) k.3
-  one_program (unfinished t ts ∷ list) begun x y h k = absurd h
-  one_program (instruction line ∷ list) begun x y h k = h.2 ∙ ap (λ (rest : List (List Placed)). begun ∷ rest) (one_program list [] h.1 k.1 h.3 k.3) ∙ sym k.2
-
-  pub one_of_both : (list : List Item) (begun : List Placed) → ((modules : List (List Placed)) × AreModules begun list modules) ⊎ ((spot : Spot) × IsRefusedAt begun list spot)
-  one_of_both [] begun = inl ([], refl)
-  one_of_both (statement [] ∷ list) begun = behind (one_of_both list begun) where
-    behind : ((modules : List (List Placed)) × AreModules begun list modules) ⊎ ((spot : Spot) × IsRefusedAt begun list spot) → ((modules : List (List Placed)) × AreModules begun list modules) ⊎ ((spot : Spot) × IsRefusedAt begun (statement [] ∷ list) spot)
-    behind (inl p) = inl p
-    behind (inr r) = inr (r.0, inr (begun, refl, r.1))
-  one_of_both (statement (t ∷ ts) ∷ list) begun = by_statement (or_not (map terminal_of (t ∷ ts))) (λ further. one_of_both list further) where
-    by_statement : IsOrNot (IsStatement (map terminal_of (t ∷ ts))) → ((further : List Placed) → ((modules : List (List Placed)) × AreModules further list modules) ⊎ ((spot : Spot) × IsRefusedAt further list spot))
-        → ((modules : List (List Placed)) × AreModules begun (statement (t ∷ ts) ∷ list) modules) ⊎ ((spot : Spot) × IsRefusedAt begun (statement (t ∷ ts) ∷ list) spot)
-    by_statement (inr none) rest = inr (t.spot, inl ((λ g. none g.1.0 g.1.1), refl))
-    by_statement (inl s) rest = by_place (may_stand begun (t ∷ ts)) refl (rest further) where
-      further : List Placed
-      further = begun ++ record { spot = t.spot; statement = s.0 } ∷ []
-
-      by_place : (b : Bool) → may_stand begun (t ∷ ts) ≡ b → ((modules : List (List Placed)) × AreModules further list modules) ⊎ ((spot : Spot) × IsRefusedAt further list spot)
-          → ((modules : List (List Placed)) × AreModules begun (statement (t ∷ ts) ∷ list) modules) ⊎ ((spot : Spot) × IsRefusedAt begun (statement (t ∷ ts) ∷ list) spot)
-      by_place true e (inl p) = inl (p.0, (s.0, s.1, e, p.1))
-      by_place true e (inr r) = inr (r.0, inr (further, (s.0, s.1, e, refl), r.1))
-      by_place false e both = inr (t.spot, inl ((λ g. let f : false ≡ true = sym e ∙ g.1.2 in absurd cc), refl))
-  one_of_both (unfinished t ts ∷ list) begun = inr (t.spot, inl ((λ h. h.1), refl))
-  one_of_both (instruction line ∷ list) begun = by_test (is_module_instruction line.text) refl (one_of_both list []) where
-    by_test : (b : Bool) → is_module_instruction line.text ≡ b → ((modules : List (List Placed)) × AreModules [] list modules) ⊎ ((spot : Spot) × IsRefusedAt [] list spot)
-        → ((modules : List (List Placed)) × AreModules begun (instruction line ∷ list) modules) ⊎ ((spot : Spot) × IsRefusedAt begun (instruction line ∷ list) spot)
-    by_test true e (inl p) = inl (begun ∷ p.0, (e, p.0, refl, p.1))
-    by_test true e (inr r) = inr (r.0, inr ([], (e, refl), r.1))
-    by_test false e rest = inr (line.spot, inl ((λ h. let f : false ≡ true = sym e ∙ h.1.0 in absurd cc), refl))
-
 -- lines have one thing
 module _ (one_list_of_tokens : (spot : Spot) (text : List ℕ) (tokens others : List Token) → AreTokens spot text tokens → AreTokens spot text others → tokens ≡ others) where
   one_lexed : (line : PlacedLine) → IsOne (IsLexed line)

@@ -9,7 +9,7 @@ use Rattle.form_grammar.specs.declared.right_side.RightSide.{RightSide}
 use Rattle.form_grammar.specs.Parts.{HasRead}
 use Rattle.form_grammar.specs.Terminal.{terminal_of}
 use Rattle.form_stmts.specs.declared.keyword.Keyword.{Keyword}
-use Rattle.form_stmts.specs.declared.keyword.Keyword.TheVariants.{Local, Also}
+use Rattle.form_stmts.specs.declared.keyword.Keyword.TheVariants.{Local}
 use Rattle.form_stmts.specs.Keyword.{keyword_of}
 
 abbrev pub is_local : Option Keyword → Bool
@@ -19,19 +19,6 @@ is_local _ = false
 abbrev pub is_local_kind : TokenKind → Bool
 is_local_kind (by_kind.Name name) = is_local (keyword_of name)
 is_local_kind _ = false
-
-abbrev pub is_also : Option Keyword → Bool
-is_also (Some Also) = true
-is_also _ = false
-
-abbrev pub is_also_kind : TokenKind → Bool
-is_also_kind (by_kind.Name name) = is_also (keyword_of name)
-is_also_kind _ = false
-
--- the first token is the keyword `also`
-abbrev pub begins_also : List Token → Bool
-begins_also [] = false
-begins_also (t ∷ ts) = is_also_kind t.kind
 
 abbrev pub is_name_kind : TokenKind → Bool
 is_name_kind (by_kind.Name name) = true

@@ -4,6 +4,7 @@ pub mod Indices
 pub mod Instruction
 pub mod Keyword
 pub mod Line
+pub mod Picking
 pub mod Program
 pub mod Progress
 pub mod Reading

@@ -1,5 +1,5 @@
 -- The modules of lines, and where lines are refused.
-use Rattle.std.specs.Prelude.{◌≡◌, ◌⊎◌, ℕ, List, [], ◌∷◌, ◌++◌, map, Bool, true, false, IsTrue, Option, Some, None, MatchBool, if◌then◌else◌, not, ◌||◌, ◌-◌, length, slice_get}
+use Rattle.std.specs.Prelude.{◌≡◌, ◌⊎◌, ℕ, List, [], ◌∷◌, ◌++◌, map, Bool, true, false, Option, Some, None, MatchBool, if◌then◌else◌}
 use Rattle.form_base.specs.declared.spot.Spot.{Spot}
 use Rattle.form_stmts.specs.Line.{PlacedLine}
 use Rattle.form_lexer.specs.declared.mark.Mark as marks
@@ -10,15 +10,15 @@ use Rattle.form_lexer.specs.declared.token.TokenKind.{TokenKind}
 use Rattle.form_lexer.specs.declared.token.TokenKind.TheVariants as by_kind
 use Rattle.form_lexer.specs.Reading.{kind_of}
 use Rattle.form_lexer.specs.Tokens.{AreTokens}
-use Rattle.form_ast.specs.declared.statement.Statement.{Statement}
-use Rattle.form_ast.specs.declared.statement.Statement.TheVariants.{Rewrite}
-use Rattle.form_ast.specs.declared.statement.Placed.{Placed}
+use Rattle.form_ast.specs.declared.module.PlacedPart.{PlacedPart}
 use Rattle.form_grammar.specs.Terminal.{terminal_of}
 use Rattle.form_stmts.specs.declared.error.ProgramError.{ProgramError}
 use Rattle.form_stmts.specs.declared.error.ProgramError.TheVariants.{BadSyntax, Memory}
-use Rattle.form_stmts.specs.Begun.{begins_also}
 use Rattle.form_stmts.specs.Instruction.{begins_with_period, is_module_instruction}
-use Rattle.form_stmts.specs.Statement.{IsStatement}
+use Rattle.form_blocks.specs.Blocks.{Unfinished, Read, and_read, fault_at_end, new_module}
+use Rattle.form_blocks.specs.Growing.{parts_grown}
+use Rattle.form_blocks.specs.declared.open.Fault.{Fault}
+use Rattle.form_stmts.specs.Statement.{AreRead}
 
 -- the token of this shape that is written so and stands here
 abbrev pub token_of : Spot → Shape → List ℕ → Token
@@ -73,70 +73,55 @@ items begun [] = []
 items begun (token t ∷ lexed) = if is_semicolon t then statement begun ∷ items [] lexed else items (begun ++ t ∷ []) lexed
 items begun (period line ∷ lexed) = unfinished_items begun ++ instruction line ∷ items [] lexed
 
--- the last of these statements is an `id` or an `also`
-abbrev pub is_rewrite : Statement → Bool
-is_rewrite (Rewrite r) = true
-is_rewrite _ = false
+-- tokens as a statement, none where they are outside the grammar
+abbrev pub IsRead : List Token → Option Read → Type 0
+IsRead tokens (Some r) = AreRead r.lines r.last (map terminal_of tokens)
+IsRead tokens None = (r : Read) → AreRead r.lines r.last (map terminal_of tokens) → ⊥
 
-abbrev pub is_rewrite_placed : Option Placed → Bool
-is_rewrite_placed None = false
-is_rewrite_placed (Some placed) = is_rewrite placed.statement
+-- A module goes on with an item. Empty statements are in the grammar, and nothing comes of them.
+abbrev pub GoesOn : Unfinished → Item → Unfinished → Type 0
+GoesOn b (statement []) c = c ≡ b
+GoesOn b (statement (t ∷ ts)) c = (r : Option Read) × IsRead (t ∷ ts) r × (c ≡ and_read b t.spot r)
+GoesOn b (unfinished t ts) c = c ≡ and_read b t.spot None
+GoesOn b (instruction line) c = c ≡ and_read b line.spot None
 
-abbrev pub ends_with_rewrite : List Placed → Bool
-ends_with_rewrite statements = is_rewrite_placed (slice_get statements (length statements - 1))
+-- it ends a module
+abbrev pub ends_module : Item → Bool
+ends_module (instruction line) = is_module_instruction line.text
+ends_module item = false
 
--- an `also` stands behind an `id` or an `also` alone: these statements stand before it in its module
-abbrev pub may_stand : List Placed → List Token → Bool
-may_stand before tokens = not (begins_also tokens) || ends_with_rewrite before
+-- a module that ends so is refused here
+abbrev pub IsRefusedHere : Option Fault → Spot → Type 0
+IsRefusedHere None spot = ⊥
+IsRefusedHere (Some f) spot = f.spot ≡ spot
 
--- An item is in the grammar, where these statements stand before it in its module, and leads on to those. Empty
--- statements are in the grammar.
-abbrev pub LeadsTo : Item → List Placed → List Placed → Type 0
-LeadsTo (statement []) before after = after ≡ before
-LeadsTo (statement (t ∷ ts)) before after =
-    (s : Statement) × IsStatement (map terminal_of (t ∷ ts)) s × IsTrue (may_stand before (t ∷ ts)) × (after ≡ before ++ record { spot = t.spot; statement = s } ∷ [])
-LeadsTo (unfinished t ts) before after = ⊥
-LeadsTo (instruction line) before after = IsTrue (is_module_instruction line.text) × (after ≡ [])
-
-abbrev pub IsInGrammar : List Placed → Item → Type 0
-IsInGrammar before item = (after : List Placed) × LeadsTo item before after
-
--- where an item is refused: at its first token, or at its line
-abbrev pub StandsAt : Item → Spot → Type 0
-StandsAt (statement []) spot = ⊥
-StandsAt (statement (t ∷ ts)) spot = t.spot ≡ spot
-StandsAt (unfinished t ts) spot = t.spot ≡ spot
-StandsAt (instruction line) spot = line.spot ≡ spot
-
--- Items are refused at this spot, where these statements stand before them in the module: there stands the first that
--- isn't in the grammar.
-abbrev pub IsRefusedAt : List Placed → List Item → Spot → Type 0
-IsRefusedAt before [] spot = ⊥
-IsRefusedAt before (item ∷ others) spot =
-    ((IsInGrammar before item → ⊥) × StandsAt item spot) ⊎ ((after : List Placed) × LeadsTo item before after × IsRefusedAt after others spot)
+-- Items are refused at this spot, the first of which stand in a module that has begun so: of the first module of which
+-- something is refused, at the first such in the order of the text.
+abbrev pub IsRefusedAt : Unfinished → List Item → Spot → Type 0
+IsRefusedAt b [] spot = IsRefusedHere (fault_at_end b) spot
+IsRefusedAt b (item ∷ others) spot = MatchBool (ends_module item)
+    (IsRefusedHere (fault_at_end b) spot ⊎ ((fault_at_end b ≡ None) × IsRefusedAt new_module others spot))
+    ((c : Unfinished) × GoesOn b item c × IsRefusedAt c others spot)
 
 -- The lines are refused at this spot.
 pub record IsRefused (lines : List PlacedLine) (spot : Spot) : Type 0 where
   pub lexed : List Lexed
   pub are_lexed : AreLexed lines lexed
-  pub refused : IsRefusedAt [] (items [] lexed) spot
+  pub refused : IsRefusedAt new_module (items [] lexed) spot
 
--- The items are these modules, the first of which has these statements already. What stands behind the last
--- instruction is in none.
-abbrev pub AreModules : List Placed → List Item → List (List Placed) → Type 0
-AreModules begun [] modules = modules ≡ []
-AreModules begun (statement [] ∷ others) modules = AreModules begun others modules
-AreModules begun (statement (t ∷ ts) ∷ others) modules =
-    (s : Statement) × IsStatement (map terminal_of (t ∷ ts)) s × IsTrue (may_stand begun (t ∷ ts)) × AreModules (begun ++ record { spot = t.spot; statement = s } ∷ []) others modules
-AreModules begun (unfinished t ts ∷ others) modules = ⊥
-AreModules begun (instruction line ∷ others) modules =
-    IsTrue (is_module_instruction line.text) × (rest : List (List Placed)) × (modules ≡ begun ∷ rest) × AreModules [] others rest
+-- The items are these modules, the first of which has begun so, each as its tree. What stands behind the last instruction
+-- is in none.
+abbrev pub AreModules : Unfinished → List Item → List (List PlacedPart) → Type 0
+AreModules b [] modules = (fault_at_end b ≡ None) × (modules ≡ [])
+AreModules b (item ∷ others) modules = MatchBool (ends_module item)
+    ((fault_at_end b ≡ None) × (rest : List (List PlacedPart)) × (modules ≡ parts_grown b.statements ∷ rest) × AreModules new_module others rest)
+    ((c : Unfinished) × GoesOn b item c × AreModules c others modules)
 
 -- The lines are a program of these modules.
-pub record IsProgram (lines : List PlacedLine) (modules : List (List Placed)) : Type 0 where
+pub record IsProgram (lines : List PlacedLine) (modules : List (List PlacedPart)) : Type 0 where
   pub lexed : List Lexed
   pub are_lexed : AreLexed lines lexed
-  pub are_modules : AreModules [] (items [] lexed) modules
+  pub are_modules : AreModules new_module (items [] lexed) modules
 
 -- where lines are refused; want of memory is free
 abbrev pub IsRefusal : ProgramError → List PlacedLine → Type 0

@@ -4,7 +4,8 @@ use std::alloc::{AllocError, AllocFailed};
 /// Why lines are no program.
 #[derive(Drop)]
 pub enum ProgramError {
-    /// The first statement that is outside the grammar begins here, or the first instruction.
+    /// Here begins the first statement that is outside the grammar, or the first block without its end, or there is the
+    /// first line that begins with a period and ends no module.
     BadSyntax(Spot),
     Memory,
 }

@@ -1,5 +1,5 @@
 ghost use Rattle.std.specs.Prelude.{◌≡◌};
-ghost use Rattle.form_stmts.specs.Keyword.{declared_by as declared_by_name, setting_keyword, expression_keyword, keyword_of as keyword_spelled};
+ghost use Rattle.form_stmts.specs.Keyword.{declared_by as declared_by_name, setting_keyword, expression_keyword, term_keyword, block_keyword, keyword_of as keyword_spelled};
 
 use form_ast::Declared;
 
@@ -19,6 +19,17 @@ pub enum Keyword {
     /// `id`
     Id,
     Also,
+    Multiply,
+    Sum,
+    Discard,
+    Repeat,
+    EndRepeat,
+    If,
+    ElseIf,
+    Else,
+    EndIf,
+    Argument,
+    EndArgument,
     Print,
 }
 
@@ -80,6 +91,48 @@ fn of_expressions(name: &str) -> Option<Keyword>
     }
 }
 
+/// The keyword of what is carried out on terms, but for `id` and `also`.
+fn of_terms(name: &str) -> Option<Keyword>
+    ensures { result ≡ term_keyword name.now }
+{
+    let is = |word: &str| name.eq_ignore_ascii_case(word);
+    if is("multiply") {
+        Some(Keyword::Multiply)
+    } else if is("sum") {
+        Some(Keyword::Sum)
+    } else if is("discard") {
+        Some(Keyword::Discard)
+    } else {
+        None
+    }
+}
+
+/// The keyword of what begins or ends a block, or a branch of one.
+fn of_blocks(name: &str) -> Option<Keyword>
+    ensures { result ≡ block_keyword name.now }
+{
+    let is = |word: &str| name.eq_ignore_ascii_case(word);
+    if is("repeat") {
+        Some(Keyword::Repeat)
+    } else if is("endrepeat") {
+        Some(Keyword::EndRepeat)
+    } else if is("if") {
+        Some(Keyword::If)
+    } else if is("elseif") {
+        Some(Keyword::ElseIf)
+    } else if is("else") {
+        Some(Keyword::Else)
+    } else if is("endif") {
+        Some(Keyword::EndIf)
+    } else if is("argument") {
+        Some(Keyword::Argument)
+    } else if is("endargument") {
+        Some(Keyword::EndArgument)
+    } else {
+        None
+    }
+}
+
 /// The keyword that the name is, in any case of letters.
 #[tactic(auto, unfolding(crate::specs::Keyword::keyword_of))]
 pub fn keyword_of(name: &str) -> Option<Keyword>
@@ -87,9 +140,9 @@ pub fn keyword_of(name: &str) -> Option<Keyword>
 {
     match declared_by(name) {
         Some(declared) => Some(Keyword::Names(declared)),
-        None => match setting(name) {
-            Some(keyword) => Some(keyword),
-            None => of_expressions(name),
-        },
+        None => setting(name)
+            .or(of_expressions(name))
+            .or(of_terms(name))
+            .or(of_blocks(name)),
     }
 }

@@ -8,10 +8,13 @@ mod instruction;
 mod keyword;
 pub mod laws;
 mod line;
+mod multiply;
 mod names;
+mod picked;
 mod program;
 mod rewrite;
 mod statement;
+mod sum;
 
 pub use error::ProgramError;
 pub use keyword::Keyword;

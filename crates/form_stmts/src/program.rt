@@ -1,18 +1,19 @@
-ghost use Rattle.std.specs.Prelude.{◌≡◌, List, ℕ, [], ◌∷◌, IfErr, IfOk, OnOk, IsTrue, IsNone, None, Option, is_some, false};
+ghost use Rattle.std.specs.Prelude.{◌≡◌, List, ℕ, [], ◌∷◌, IfErr, IfOk, OnOk, None, is_some, false};
 ghost use Rattle.form_ast.specs.Lawful.{AreLawfulModules};
 ghost use Rattle.form_stmts.specs.Begun.{is_front};
-ghost use Rattle.form_stmts.specs.Program.{IsProgram, IsRefusal, IsLexed, Lexed, statement, token as lexed_token, token_of, period, is_semicolon_kind, first_spot as first_spot_of, ends_with_rewrite as ends_with_rewrite_of, may_stand as may_stand_there};
+ghost use Rattle.form_stmts.specs.Program.{IsProgram, IsRefusal, IsLexed, Lexed, token as lexed_token, token_of, period, is_semicolon_kind, first_spot as first_spot_of};
 ghost use Rattle.form_lexer.specs.Reading.{kind_of};
 ghost use Rattle.form_stmts.specs.Line.{PlacedLine};
 
 use crate::instruction::{begins_with_period, is_module_instruction};
-use crate::statement::{begins_also, begins_definition, read_begun};
+use crate::statement::{begins_definition, read_begun};
 use crate::{Line, ProgramError};
-use form_ast::{Module, Placed, Statement};
+use form_ast::Module;
 use form_base::Spot;
+use form_blocks::{ModuleText, parts_of};
 use form_grammar::{ReadError, RightSide};
 use form_lexer::{Mark, Shape, Token, kind, laws, next_token};
-use std::alloc::Global;
+use std::alloc::{AllocError, Global};
 use std::mem;
 
 /// A program while it is read.
@@ -22,8 +23,8 @@ struct Reader {
     tokens: Vec<Token>,
     /// What is read of the right side, where a definition is begun and its `=` is read.
     right_side: Option<RightSide>,
-    /// The statements of the module that is begun.
-    statements: Vec<Placed>,
+    /// The module that is begun.
+    current: ModuleText,
     modules: Vec<Module>,
 }
 
@@ -43,26 +44,8 @@ fn first_spot(tokens: &[Token]) -> Option<Spot>
     }
 }
 
-/// Whether the last of the statements is an `id` or an `also`.
-fn ends_with_rewrite(statements: &[Placed]) -> bool
-    ensures { result ≡ ends_with_rewrite_of statements.now }
-{
-    match statements.last() {
-        Some(placed) => matches!(placed.statement, Statement::Rewrite(_)),
-        None => false,
-    }
-}
-
-/// Whether a statement may stand behind those of its module: an `also` stands behind an `id` or an `also` alone.
-fn may_stand(before: &[Placed], tokens: &[Token]) -> bool
-    ensures { result ≡ may_stand_there before.now tokens.now }
-{
-    !begins_also(tokens) || ends_with_rewrite(before)
-}
-
 impl Reader {
-    ghost use Rattle.form_lexer.specs.declared.token.Token.{Token};
-    ghost use Rattle.form_stmts.specs.Progress.{EndsStatement, HasBegun, IsRefusedItem, ReadTo, ReadsOn, Refuses, RefusesLine};
+    ghost use Rattle.form_stmts.specs.Progress.{EndsModule, EndsStatement, IsRefusedModule, LeavesStatement, ReadTo, ReadsOn, Refuses, RefusesLine};
 
     fn new(alloc: Global) -> Reader
         ensures { ReadTo [] result }
@@ -70,32 +53,38 @@ impl Reader {
         Reader {
             tokens: Vec::new(alloc),
             right_side: None,
-            statements: Vec::new(alloc),
+            current: ModuleText::new(alloc),
             modules: Vec::new(alloc),
         }
     }
 
     /// Ends the statement that is begun.
     #[inline(never)]
-    fn end_statement(&mut self, alloc: Global) -> Result<(), ProgramError>
-        ensures ended { OnOk result (EndsStatement self.old self.new) }
-        ensures refused { IfErr result (λ error. (begun : List Token) → HasBegun self.old begun → IsRefusedItem self.old.statements.items (statement begun) error) }
+    fn end_statement(&mut self, alloc: Global) -> Result<(), AllocError>
+        ensures { OnOk result (EndsStatement self.old self.new) }
     {
         let tokens = mem::replace(&mut self.tokens, Vec::new(alloc));
         let right_side = self.right_side.take();
         let Some(spot) = first_spot(&tokens) else {
             return Ok(());
         };
-        if !may_stand(self.statements.as_slice(), tokens.as_slice()) {
-            return Err(ProgramError::BadSyntax(spot));
-        }
-        match read_begun(alloc, tokens, right_side) {
-            Ok(statement) => {
-                self.statements.push(Placed { spot, statement })?;
-                Ok(())
-            }
-            Err(ReadError::BadSyntax) => Err(ProgramError::BadSyntax(spot)),
-            Err(ReadError::Memory) => Err(ProgramError::Memory),
+        let reading = match read_begun(alloc, tokens, right_side) {
+            Ok(reading) => Some(reading),
+            Err(ReadError::BadSyntax) => None,
+            Err(ReadError::Memory) => return Err(AllocError),
+        };
+        self.current.read(spot, reading)
+    }
+
+    /// Leaves the statement that is begun, where there is one: no `;` ends it.
+    fn leave_statement(&mut self, alloc: Global) -> Result<(), AllocError>
+        ensures { OnOk result (LeavesStatement self.old self.new) }
+    {
+        let tokens = mem::replace(&mut self.tokens, Vec::new(alloc));
+        self.right_side = None;
+        match first_spot(&tokens) {
+            Some(spot) => self.current.read(spot, None),
+            None => Ok(()),
         }
     }
 
@@ -134,20 +123,33 @@ impl Reader {
         Ok(())
     }
 
-    /// Ends the module that is begun, where the line is an instruction for that and no statement is begun.
+    /// Ends the module that is begun.
+    fn end_module(&mut self, alloc: Global) -> Result<(), ProgramError>
+        ensures ended { OnOk result (EndsModule self.old self.new) }
+        ensures refused { IfErr result (λ error. IsRefusedModule self.old.current error) }
+    {
+        let current = mem::replace(&mut self.current, ModuleText::new(alloc));
+        match current.end() {
+            Ok(statements) => {
+                let parts = parts_of(alloc, statements)?;
+                self.modules.push(Module::from_vec(parts))?;
+                Ok(())
+            }
+            Err(spot) => Err(ProgramError::BadSyntax(spot)),
+        }
+    }
+
+    /// Ends the module that is begun, where the line is an instruction for that.
     #[inline(never)]
     fn take_instruction(&mut self, alloc: Global, line: &Line<'_>) -> Result<(), ProgramError>
         ensures read { OnOk result (ReadsOn self.old (period line.now ∷ []) self.new) }
         ensures refused { IfErr result (λ error. Refuses self.old (period line.now ∷ []) error) }
     {
-        if let Some(first) = first_spot(&self.tokens) {
-            return Err(ProgramError::BadSyntax(first));
+        self.leave_statement(alloc)?;
+        if is_module_instruction(line.text().as_bytes()) {
+            return self.end_module(alloc);
         }
-        if !is_module_instruction(line.text().as_bytes()) {
-            return Err(ProgramError::BadSyntax(line.spot()));
-        }
-        let statements = mem::replace(&mut self.statements, Vec::new(alloc));
-        self.modules.push(Module::from_vec(statements))?;
+        self.current.read(line.spot(), None)?;
         Ok(())
     }
 
@@ -192,6 +194,13 @@ pub fn read_program(alloc: Global, lines: Vec<Line<'_>>) -> Result<Vec<Module>, 
     for line in lines {
         reader.take_line(alloc, &line)?;
     }
-    let Reader { modules, .. } = reader;
-    Ok(modules)
+    let Reader {
+        current,
+        modules,
+        ..
+    } = reader;
+    match current.end() {
+        Ok(_) => Ok(modules),
+        Err(spot) => Err(ProgramError::BadSyntax(spot)),
+    }
 }

@@ -41,7 +41,7 @@ fn word_option(token: &Token) -> Option<Taking>
     }
 }
 
-fn is_comma(token: &Token) -> bool
+pub fn is_comma(token: &Token) -> bool
     ensures { result ≡ is_comma_terminal (terminal_of token.now) }
 {
     matches!(token.kind, TokenKind::Mark(Mark::Comma))
@@ -74,7 +74,7 @@ fn option_at(tokens: &[Token]) -> Option<Taking>
 }
 
 /// Takes a comma from the front, where one stands there.
-fn take_comma(tokens: &mut Vec<Token>)
+pub fn take_comma(tokens: &mut Vec<Token>)
     ensures { map terminal_of tokens.new.items ≡ behind_comma (map terminal_of tokens.old.items) }
 {
     let is_there = match tokens.first() {

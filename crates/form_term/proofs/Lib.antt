@@ -1,9 +1,12 @@
 pub mod Balanced
+pub mod Coefficients
 pub mod Compared
 pub mod DotExponents
 pub mod Dots
+pub mod Each
 pub mod Inside
 pub mod Left
+pub mod Named
 pub mod Nesting
 pub mod Numbers
 pub mod Parts

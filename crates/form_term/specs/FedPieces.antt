@@ -22,20 +22,20 @@ fed_power p = fed.u64 (packed p)
 abbrev pub fed_coefficient : Coefficient → List (List ℕ)
 fed_coefficient c = fed.i128 c.numerator ++ (if c.denominator == 1 then [] else fed.u128 c.denominator)
 
--- what a piece holds, and where it holds nothing a number for its kind
+-- what a piece holds, where that is a name 4 more than its number, and where it holds nothing a number below 4 for its kind
 abbrev pub fed_piece : Piece → List (List ℕ)
-fed_piece EndOfArguments = fed.u8 0
-fed_piece EndOfSum = fed.u8 1
+fed_piece EndOfArguments = fed.u64 0
+fed_piece EndOfSum = fed.u64 1
 fed_piece (Negative p) = fed_power p
 fed_piece (NegativeDot d) = dots.ghosts.hash_input d
 fed_piece (EndOfTerm c) = fed_coefficient c
-fed_piece (NonCommuting f) = fed.u32 f
-fed_piece (Function f) = fed.u32 f
+fed_piece (NonCommuting f) = fed.u64 (f + 4)
+fed_piece (Function f) = fed.u64 (f + 4)
 fed_piece (Delta d) = deltas.ghosts.hash_input d
 fed_piece (Component c) = components.ghosts.hash_input c
-fed_piece (PositiveDot p q x) = fed.u32 p.0 ++ fed_power (record { symbol = q.0; exponent = x })
+fed_piece (PositiveDot p q x) = fed.u64 (p.0 + 4) ++ fed_power (record { symbol = q.0; exponent = x })
 fed_piece (Positive p x) = fed_power (record { symbol = p.0; exponent = x })
-fed_piece Imaginary = fed.u8 2
+fed_piece Imaginary = fed.u64 2
 fed_piece (Index i) = indices.ghosts.hash_input i
-fed_piece (Vector v) = fed.u32 v
-fed_piece Sum = fed.u8 3
+fed_piece (Vector v) = fed.u64 (v + 4)
+fed_piece Sum = fed.u64 3

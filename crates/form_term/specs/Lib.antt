@@ -8,6 +8,7 @@ pub mod Factors
 pub mod FedPieces
 pub mod Feeding
 pub mod Monomial
+pub mod Named
 pub mod Packing
 pub mod Pieces
 pub mod PowerLaws

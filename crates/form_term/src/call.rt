@@ -12,7 +12,8 @@ use std::hash::{Hash, Hasher};
 use std::marker::Model;
 
 /// A function with its arguments, kept as their pieces. Copies share the arguments, and take no memory: up to nine
-/// pieces, as most functions have, and the count of their owners are one block, more pieces and the count are two.
+/// pieces, as most functions have, and the count of their owners are one block, more pieces and the count are two, and a
+/// function without arguments takes no memory at all.
 #[derive(Drop)]
 pub struct Call {
     packed: Packed,
@@ -204,12 +205,12 @@ impl Hash for Call {
     ghost use Rattle.std.specs.Hash as fed;
     ghost use Rattle.form_term.specs.TermLaws.{calls_alike};
 
-    ghost hash_input = { λ c. ⟦<Id as Hash>⟧.hash_input c.function ++ fed.slice ⟦<Piece as Hash>⟧.hash_input c.pieces };
+    ghost hash_input = { λ c. fed.u64 c.function ++ fed.slice ⟦<Piece as Hash>⟧.hash_input c.pieces };
 
-    ghost respects_eq = { calls_alike (λ c. ⟦<Id as Hash>⟧.hash_input c.function ++ fed.slice ⟦<Piece as Hash>⟧.hash_input c.pieces) };
+    ghost respects_eq = { calls_alike (λ c. fed.u64 c.function ++ fed.slice ⟦<Piece as Hash>⟧.hash_input c.pieces) };
 
     fn hash<H: Hasher>(&self, state: &mut H) {
-        self.function().hash(state);
+        state.write_u64(u64::from(self.function().position()));
         self.pieces().hash(state);
     }
 }

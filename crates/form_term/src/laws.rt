@@ -1,6 +1,7 @@
 //! Laws of the definitions, each the contract of a function that does nothing.
 
 ghost use Rattle.std.specs.Prelude.{◌≡◌, ◌≢◌, ◌<◌, ◌↔◌, ℕ, true, false, List, All};
+ghost use Rattle.std.specs.List.{AllByRecursion};
 ghost use Rattle.std.specs.Cmp.Lexicographic.{slice_cmp};
 ghost use Rattle.std.specs.Cmp.{IsTotalOrder};
 ghost use Rattle.std.specs.Ordering.{int_cmp, nat_cmp, ordering_then};
@@ -8,8 +9,9 @@ ghost use Rattle.std.specs.declared.cmp.Ordering.TheVariants.{Equal, Less};
 ghost use Rattle.form_term.specs.declared.piece.Piece.{Piece};
 ghost use Rattle.form_term.specs.ArgumentOrder.{IsPairBefore, argument_order, dot_exponent_of};
 ghost use Rattle.form_term.specs.Arguments.{arguments_of};
+ghost use Rattle.form_term.specs.Named.{Places, ArePiecesNamed, IsArgumentNamed, IsNamed};
 ghost use Rattle.form_term.specs.Pieces.{piece_order};
-ghost use Rattle.form_term.specs.Term.{Term, Argument, Call, IsTerm, IsCall, IsArgumentOf, AreArguments, call_order, exponent_of, order, pieces_of_arguments, index_order, component_order, delta_order};
+ghost use Rattle.form_term.specs.Term.{Term, Argument, Call, IsTerm, IsCall, IsArgumentOf, AreArguments, call_order, exponent_of, order, pieces_of_arguments, pieces_of_term, index_order, component_order, delta_order};
 ghost use Rattle.form_term.specs.declared.index.Index.TheVariants as indices;
 ghost use Rattle.form_term.specs.declared.index.Component.{Component};
 ghost use Rattle.form_term.specs.declared.index.Delta.{Delta};
@@ -80,4 +82,12 @@ pub fn order_of_arguments()
     ensures calls { (c d : Call) → IsCall c → IsCall d →
         call_order c d ≡ ordering_then (nat_cmp c.function d.function)
         (slice_cmp argument_order (arguments_of c.pieces) (arguments_of d.pieces)) }
+{}
+
+/// The names in a function's arguments stand at their places where those of each argument do, and the names of a term where
+/// those of the pieces do that it is kept as in an argument.
+pub fn names_of_calls()
+    ensures arguments { (names : Places) (c : Call) → IsCall c →
+        ArePiecesNamed names c.pieces ↔ AllByRecursion (IsArgumentNamed names) (arguments_of c.pieces) }
+    ensures terms { (names : Places) (t : Term) → IsNamed names t ↔ ArePiecesNamed names (pieces_of_term t) }
 {}

@@ -9,10 +9,11 @@ use std::alloc::{AllocError, Global};
 use std::sync::Arc;
 
 /// A function with its size and its depth as they are kept, its name, and the pieces of its arguments, which copies
-/// share: up to nine pieces and the count of their owners are one block of memory. Fields lie in this order, so it has
-/// 16 bytes.
+/// share: up to nine pieces and the count of their owners are one block of memory, and without pieces there is none.
+/// Fields lie in this order, so it has 16 bytes.
 #[derive(Drop)]
 pub(crate) enum Packed {
+    Bare(u8, u8, Id),
     One(u8, u8, Id, Arc<[Piece; 1]>),
     Two(u8, u8, Id, Arc<[Piece; 2]>),
     Three(u8, u8, Id, Arc<[Piece; 3]>),
@@ -34,6 +35,9 @@ impl Packed {
     ) -> Result<Packed, AllocError>
         ensures { IfOk result (IsPacked size depth function pieces.items) }
     {
+        if pieces.is_empty() {
+            return Ok(Packed::Bare(size, depth, function));
+        }
         let alloc = *pieces.allocator();
         match pieces.len() {
             1 => Ok(Packed::One(size, depth, function, shared(alloc, &pieces)?)),
@@ -54,6 +58,7 @@ impl Packed {
         ensures { result ≡ size_in self.now }
     {
         match self {
+            Packed::Bare(size, ..) => *size,
             Packed::One(size, ..) => *size,
             Packed::Two(size, ..) => *size,
             Packed::Three(size, ..) => *size,
@@ -72,6 +77,7 @@ impl Packed {
         ensures { result ≡ depth_in self.now }
     {
         match self {
+            Packed::Bare(_, depth, ..) => *depth,
             Packed::One(_, depth, ..) => *depth,
             Packed::Two(_, depth, ..) => *depth,
             Packed::Three(_, depth, ..) => *depth,
@@ -90,6 +96,7 @@ impl Packed {
         ensures { result ≡ function_in self.now }
     {
         match self {
+            Packed::Bare(_, _, function) => *function,
             Packed::One(_, _, function, _) => *function,
             Packed::Two(_, _, function, _) => *function,
             Packed::Three(_, _, function, _) => *function,
@@ -108,6 +115,7 @@ impl Packed {
         ensures { result.now ≡ pieces_in self.now }
     {
         match self {
+            Packed::Bare(..) => &[],
             Packed::One(.., pieces) => pieces.as_slice(),
             Packed::Two(.., pieces) => pieces.as_slice(),
             Packed::Three(.., pieces) => pieces.as_slice(),
@@ -127,6 +135,7 @@ impl Packed {
     {
         let (size, depth, function) = (self.size(), self.depth(), self.function());
         match self {
+            Packed::Bare(..) => Ok(Packed::Bare(size, depth, function)),
             Packed::One(.., pieces) => Ok(Packed::One(size, depth, function, pieces.clone()?)),
             Packed::Two(.., pieces) => Ok(Packed::Two(size, depth, function, pieces.clone()?)),
             Packed::Three(.., pieces) => Ok(Packed::Three(size, depth, function, pieces.clone()?)),

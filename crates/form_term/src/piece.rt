@@ -91,6 +91,9 @@ pub enum Piece {
 
 const _: () = prove!(size_of::<Piece>() == 36);
 
+/// How many marks there are that hold nothing: each is fed to a hasher as a number below this, and a name as one above.
+const MARKS: u64 = 4;
+
 impl Hash for Piece {
     ghost use Rattle.form_term.specs.FedPieces.{fed_piece};
     ghost use Rattle.form_term.specs.TermLaws.{pieces_alike};
@@ -99,19 +102,22 @@ impl Hash for Piece {
 
     ghost respects_eq = { pieces_alike fed_piece };
 
+    /// Whole words are fed where that can be: what isn't is fed byte by byte, and so is all behind it.
     fn hash<H: Hasher>(&self, state: &mut H) {
         match self {
-            Piece::EndOfArguments => state.write_u8(0),
-            Piece::EndOfSum => state.write_u8(1),
+            Piece::EndOfArguments => state.write_u64(0),
+            Piece::EndOfSum => state.write_u64(1),
             Piece::Negative(power) => power.hash(state),
             Piece::NegativeDot(dot) => dot.hash(state),
             Piece::EndOfTerm(coefficient) => coefficient.hash(state),
-            Piece::NonCommuting(function) => function.hash(state),
-            Piece::Function(function) => function.hash(state),
+            Piece::NonCommuting(function) => {
+                state.write_u64(u64::from(function.position()) + MARKS);
+            }
+            Piece::Function(function) => state.write_u64(u64::from(function.position()) + MARKS),
             Piece::Delta(delta) => delta.hash(state),
             Piece::Component(component) => component.hash(state),
             Piece::PositiveDot(left, right, exponent) => {
-                left.0.hash(state);
+                state.write_u64(u64::from(left.0.position()) + MARKS);
                 Power {
                     symbol: right.0,
                     exponent: *exponent,
@@ -125,10 +131,10 @@ impl Hash for Piece {
                 }
                 .hash(state);
             }
-            Piece::Imaginary => state.write_u8(2),
+            Piece::Imaginary => state.write_u64(2),
             Piece::Index(index) => index.hash(state),
-            Piece::Vector(vector) => vector.hash(state),
-            Piece::Sum => state.write_u8(3),
+            Piece::Vector(vector) => state.write_u64(u64::from(vector.position()) + MARKS),
+            Piece::Sum => state.write_u64(3),
         }
     }
 }

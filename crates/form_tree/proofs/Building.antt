@@ -1,109 +1,13 @@
--- A tree is built again from its pieces, one after another; so pieces have one tree.
-use Rattle.std.proofs.Common.{◌≡◌, ℕ, Bool, true, false, List, [], ◌∷◌, ◌++◌, Option, Some, None, refl, sym, ap, ◌∙◌, append_assoc}
-use Rattle.std.proofs.lemmas.Option.{same_Some}
+-- The pieces of a tree are built to that tree; so pieces have one tree.
+use Rattle.std.proofs.Common.{◌≡◌, ℕ, Bool, true, false, List, [], ◌∷◌, ◌++◌, refl, sym, ap, ◌∙◌, append_assoc}
 use Rattle.std.proofs.lemmas.List.{append-nil}
 use Rattle.form_tree.specs.declared.tree.Link.{Link}
 use Rattle.form_tree.specs.declared.tree.Link.TheVariants as links
 use Rattle.form_tree.specs.declared.tree.Piece.{Piece}
 use Rattle.form_tree.specs.declared.tree.Piece.TheVariants as pieces
-use Rattle.form_tree.specs.declared.tree.Base as kept
-use Rattle.form_tree.specs.declared.tree.Base.TheVariants as bases
 use Rattle.form_tree.specs.declared.tree.Exponent.{Exponent}
+use Rattle.form_tree.specs.Building.{Lead, start, after, Begun, nothing, begun, Calling, Frame, in_parenthesis, in_argument, State, in_sum, in_function, ended_by, added, calling, with_argument, raised_by, step, build, whole, sum_of, last_argument, alone, argument_of}
 use Rattle.form_tree.specs.Tree.{Sum, first, more, Product, one, times, Factor, number, symbol, wild, stored, imaginary, dot, component, delta, function, parenthesis, raised, Base, number_base, symbol_base, wild_base, dot_base, imaginary_base, component_base, delta_base, function_base, parenthesis_base, Arguments, empty, further, Argument, index, vector, field, expression, link_of, exponent, pieces_of_sum, pieces_of_product, pieces_of_factor, pieces_of_base, pieces_of_arguments, pieces_of_argument}
-
--- what is before a product: whether there is a minus, where it is the first, or a sum and that
-data Lead : Type 0 where
-  start : (is_minus : Bool) → Lead
-  after : Sum → (is_minus : Bool) → Lead
-
--- a sum that is begun: nothing yet, or what is before its last product, and this
-data Begun : Type 0 where
-  nothing : Begun
-  begun : Lead → Product → Begun
-
--- a function that is begun: the sum that it stands in, how it stands there, what it is, and its arguments so far
-record Calling : Type 0 where
-  around : Begun
-  link : Link
-  position : ℕ
-  is_commuting : Bool
-  arguments : Arguments
-
--- what is open around a sum: a parenthesis, in what and how it stands there, or a function one of whose arguments it is
-data Frame : Type 0 where
-  in_parenthesis : Begun → Link → Frame
-  in_argument : Calling → Frame
-
--- where one is: in a sum, or behind an argument of a function
-data State : Type 0 where
-  in_sum : List Frame → Begun → State
-  in_function : List Frame → Calling → State
-  failed : State
-
-abbrev sum_of : Lead → Product → Sum
-sum_of (start is_minus) p = first is_minus p
-sum_of (after s is_minus) p = more s is_minus p
-
--- a further factor
-abbrev added : Begun → Link → Factor → Begun
-added nothing links.Plus f = begun (start false) (one f)
-added nothing links.Minus f = begun (start true) (one f)
-added nothing links.Times f = nothing
-added (begun l p) links.Plus f = begun (after (sum_of l p) false) (one f)
-added (begun l p) links.Minus f = begun (after (sum_of l p) true) (one f)
-added (begun l p) links.Times f = begun l (times p f)
-
-abbrev calling : Begun → Link → ℕ → Bool → Arguments → Calling
-calling around link position is_commuting args = record { around = around; link = link; position = position; is_commuting = is_commuting; arguments = args }
-
-abbrev with_argument : Calling → Argument → Calling
-with_argument c a = calling c.around c.link c.position c.is_commuting (further c.arguments a)
-
--- a base of one piece
-abbrev base_of : kept.Base → Base
-base_of (bases.Number n) = number_base n
-base_of (bases.Symbol s) = symbol_base s
-base_of (bases.Wild s) = wild_base s
-base_of (bases.Dot p q) = dot_base p q
-base_of bases.Imaginary = imaginary_base
-base_of (bases.Component c) = component_base c
-base_of (bases.Delta i j) = delta_base i j
-
--- a base to a power that a wildcard stands for
-abbrev raised_by : Base → Exponent → Factor
-raised_by b by = raised b by.is_over by.is_minus by.symbol
-
-abbrev step : State → Piece → State
-step (in_sum frames inner) (pieces.Number link n power) = in_sum frames (added inner link (number n power))
-step (in_sum frames inner) (pieces.Symbol link s power) = in_sum frames (added inner link (symbol s power))
-step (in_sum frames inner) (pieces.Wild link s is_over power) = in_sum frames (added inner link (wild s is_over power))
-step (in_sum frames inner) (pieces.Raised link b by) = in_sum frames (added inner link (raised_by (base_of b) by))
-step (in_sum frames inner) (pieces.Stored link e power) = in_sum frames (added inner link (stored e power))
-step (in_sum frames inner) (pieces.Imaginary link power) = in_sum frames (added inner link (imaginary power))
-step (in_sum frames inner) (pieces.Dot link p q power) = in_sum frames (added inner link (dot p q power))
-step (in_sum frames inner) (pieces.Component link c power) = in_sum frames (added inner link (component c power))
-step (in_sum frames inner) (pieces.Delta link i j power) = in_sum frames (added inner link (delta i j power))
-step (in_sum frames inner) (pieces.Function link f is_commuting) = in_function frames (calling inner link f is_commuting empty)
-step (in_sum frames inner) (pieces.Open link) = in_sum (in_parenthesis inner link ∷ frames) nothing
-step (in_sum (in_parenthesis outer link ∷ frames) (begun l p)) (pieces.Close power) = in_sum frames (added outer link (parenthesis (sum_of l p) power))
-step (in_sum (in_parenthesis outer link ∷ frames) (begun l p)) (pieces.CloseRaised by) = in_sum frames (added outer link (raised_by (parenthesis_base (sum_of l p)) by))
-step (in_sum (in_argument c ∷ frames) (begun l p)) pieces.EndOfArgument = in_function frames (with_argument c (expression (sum_of l p)))
-step (in_function frames c) (pieces.Index i) = in_function frames (with_argument c (index i))
-step (in_function frames c) (pieces.Vector v) = in_function frames (with_argument c (vector v))
-step (in_function frames c) (pieces.Field w) = in_function frames (with_argument c (field w))
-step (in_function frames c) pieces.Argument = in_sum (in_argument c ∷ frames) nothing
-step (in_function frames c) (pieces.EndOfFunction power) = in_sum frames (added c.around c.link (function c.position c.is_commuting c.arguments power))
-step (in_function frames c) (pieces.EndOfRaisedFunction by) = in_sum frames (added c.around c.link (raised_by (function_base c.position c.is_commuting c.arguments) by))
-step s p = failed
-
-abbrev whole : State → Option Sum
-whole (in_sum [] (begun l p)) = Some (sum_of l p)
-whole s = None
-
--- the tree of pieces behind what is begun
-build : State → List Piece → Option Sum
-build s [] = whole s
-build s (p ∷ ps) = build (step s p) ps
 
 abbrev begun_of : Sum → Begun
 begun_of (first is_minus p) = begun (start is_minus) p
@@ -210,14 +114,26 @@ mutual
       ∙ of_sum s (in_argument c ∷ frames) (pieces.EndOfArgument ∷ rest)
       ∙ ap (λ (t : State). build t rest) (argument_closed frames c s)
 
-of_begun : (s : Sum) → build (in_sum [] (begun_of s)) [] ≡ Some s
-unfolding build
+of_begun : (s : Sum) → whole (in_sum [] (begun_of s)) ≡ s
 of_begun (first o p) = refl
 of_begun (more s o p) = refl
 
-built : (s : Sum) → build (in_sum [] nothing) (pieces_of_sum s) ≡ Some s
-built s = ap (build (in_sum [] nothing)) (sym (append-nil (pieces_of_sum s))) ∙ of_sum s [] [] ∙ of_begun s
+of_nothing : (s : State) → build s [] ≡ s
+unfolding build
+of_nothing s = refl
+
+-- The pieces of a tree are built to that.
+pub built : (s : Sum) → sum_of (pieces_of_sum s) ≡ s
+built s =
+    ap (λ (ps : List Piece). whole (build (in_sum [] nothing) ps)) (sym (append-nil (pieces_of_sum s)))
+    ∙ ap whole (of_sum s [] [] ∙ of_nothing (in_sum [] (begun_of s)))
+    ∙ of_begun s
+
+pub built_argument : (a : Argument) → argument_of (pieces_of_argument a) ≡ a
+built_argument a =
+    ap (λ (ps : List Piece). last_argument (build (in_function [] alone) ps)) (sym (append-nil (pieces_of_argument a)))
+    ∙ ap last_argument (of_argument a [] alone [] ∙ of_nothing (in_function [] (with_argument alone a)))
 
 -- Pieces are those of one tree at most.
 pub one_tree : (s t : Sum) → pieces_of_sum s ≡ pieces_of_sum t → s ≡ t
-one_tree s t e = same_Some s t (sym (built s) ∙ ap (build (in_sum [] nothing)) e ∙ built t)
+one_tree s t e = sym (built s) ∙ ap sum_of e ∙ built t

@@ -1,3 +1,9 @@
+pub mod Building
+pub mod Condition
+pub mod Conditions
 pub mod Pattern
+pub mod PatternBuilding
 pub mod Patterns
+pub mod Placed
 pub mod Tree
+pub mod Weights

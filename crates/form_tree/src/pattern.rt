@@ -77,11 +77,11 @@ pub enum PatternPiece {
     EndOfArguments,
     EndOfWord,
     /// An argument without wildcards, by its number.
-    Fixed(u32),
+    Fixed(usize),
     /// An argument that is a wildcard.
     Any(Sort, Name),
     /// A field of arguments, by its number.
-    Field(u32),
+    Field(usize),
     /// An argument that is a product with wildcards; its factors follow.
     Product,
     EndOfProduct,

@@ -109,7 +109,7 @@ pub enum Piece {
     /// A function ends, to a power that a wildcard stands for.
     EndOfRaisedFunction(Exponent),
     /// A field of arguments, by its number among those of the pattern.
-    Field(u32),
+    Field(usize),
     /// An argument that is an index alone.
     Index(Index),
     /// An argument that is a vector alone.

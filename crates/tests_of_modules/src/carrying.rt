@@ -1,11 +1,17 @@
 //! Terms carried out to one who takes what they become.
 
+ghost use Rattle.std.specs.Prelude.{◌≡◌, All, IfOk, pos};
+ghost use Rattle.form_flow.specs.Making.{HasAllTrees};
+ghost use Rattle.form_tree.specs.declared.tree.Link.TheVariants.{Plus};
+ghost use Rattle.form_tree.specs.declared.tree.Piece.TheVariants as pieces;
+
+use crate::statements::{block_of, rewriting};
 use form_base::{Cause, Id};
-use form_check::{Checked, Rewriting};
+use form_check::CheckedBlock;
 use form_flow::{CompiledModule, Emit, End, Go};
 use form_frac::Frac;
 use form_term::{Monomial, Term};
-use form_tree::{Link, Name, Pattern, PatternPiece, Piece, Tree};
+use form_tree::{Link, Piece};
 use std::alloc::{AllocError, Global};
 use std::test::Fail;
 
@@ -34,21 +40,16 @@ impl Emit for Taker {
 }
 
 /// `id x = y + z`, x being the symbol 0.
-fn statement(alloc: Global) -> Result<Checked, AllocError> {
-    let mut pieces = Vec::new(alloc);
-    pieces.push(PatternPiece::Symbol(Name::Itself(Id::new(0)), 1))?;
+fn statements(alloc: Global) -> Result<CheckedBlock, AllocError>
+    ensures { IfOk result (λ block. All HasAllTrees block) }
+{
     let right = [symbol(1), symbol(2)];
-    Ok(Checked::Rewrite(
-        false,
-        Rewriting {
-            option: None,
-            pattern: Pattern::from_parts(pieces, Vec::new(alloc)),
-            right: Tree::from_vec(Vec::from_slice(alloc, &right)?),
-        },
-    ))
+    block_of(alloc, rewriting(alloc, &right)?)
 }
 
-fn symbol(position: u32) -> Piece {
+fn symbol(position: u32) -> Piece
+    ensures { result ≡ pieces.Symbol Plus position (pos 1) }
+{
     Piece::Symbol {
         link: Link::Plus,
         symbol: Id::new(position),
@@ -58,22 +59,10 @@ fn symbol(position: u32) -> Piece {
 
 /// How carrying x out by it ends, and the symbols that were taken, of two at most.
 fn carried(alloc: Global, limit: u64, most: usize) -> Result<(&'static str, u32, u32), AllocError> {
-    let mut statements = Vec::new(alloc);
-    statements.push(statement(alloc)?)?;
+    let statements = statements(alloc)?;
+    let module = CompiledModule::new(alloc, limit, 100, &statements)?;
     let term = Term::symbol(alloc, Id::new(0), 1)?;
-    carried_by(alloc, limit, &statements, &term, most)
-}
-
-/// How carrying a term out by statements ends, and those symbols.
-fn carried_by(
-    alloc: Global,
-    limit: u64,
-    statements: &[Checked],
-    term: &Term,
-    most: usize,
-) -> Result<(&'static str, u32, u32), AllocError> {
-    let module = CompiledModule::new(alloc, limit, statements)?;
-    Ok(carried_through(alloc, &module, term, most))
+    Ok(carried_through(alloc, &module, &term, most))
 }
 
 fn carried_through(

@@ -6,4 +6,6 @@ mod carrying;
 #[cfg(test)]
 mod modules;
 #[cfg(test)]
-mod outputs;
+mod statements;
+#[cfg(test)]
+mod taking;

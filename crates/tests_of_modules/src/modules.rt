@@ -1,18 +1,22 @@
 //! What is dropped goes and what is defined stands, over what stood before, all of it gone through the statements; and a
 //! refusal is at its expression.
-ghost use Rattle.std.specs.Prelude.{◌≡◌, IfOk, false};
+ghost use Rattle.std.specs.Prelude.{◌≡◌, ◌<◌, All, IfOk, length};
 ghost use Rattle.form_tree.specs.Tree.{Sum, pieces_of_sum};
-ghost use Rattle.form_check.specs.declared.checked.Checked.TheVariants.{Rewrite};
-ghost use Rattle.form_module.specs.Module.{HasTree, HaveTrees};
+ghost use Rattle.form_flow.specs.Making.{HasAllTrees};
+ghost use Rattle.form_module.specs.Module.{HaveTrees};
+ghost use Rattle.form_module.specs.Reporting.{module_at};
 
-use form_base::{Id, Settings};
-use form_check::{Checked, IdList, Module, Rewriting, Selection};
+use crate::statements::{block_of, rewriting};
+use form_base::{Id, Place, Settings};
+use form_check::{Checked, CheckedBlock, IdList, Module, Program, Selection};
 use form_collect::Terms;
 use form_expand::Stored;
 use form_frac::Frac;
 use form_module::{ModuleError, run_module};
+use form_names::Names;
 use form_term::{Monomial, Term};
-use form_tree::{Link, Name, Natural, Pattern, PatternPiece, Piece, Tree};
+use form_tree::{Link, Natural, Piece, Tree};
+use sqlite_items::Items;
 use std::alloc::{AllocError, Global};
 use std::test::Fail;
 
@@ -36,22 +40,16 @@ fn right_side(alloc: Global, value: u128, power: i32) -> Result<Tree, AllocError
     Ok(Tree::from_vec(pieces))
 }
 
-/// What puts 1 in for the symbol 0.
-fn rewriting(alloc: Global) -> Result<Rewriting, AllocError>
-    ensures { IfOk result (λ r. HasTree (Rewrite false r)) }
+/// A statement that puts 1 in for the symbol 0.
+fn actions(alloc: Global) -> Result<CheckedBlock, AllocError>
+    ensures { IfOk result (λ block. All HasAllTrees block) }
 {
-    let mut pieces = Vec::new(alloc);
-    pieces.push(PatternPiece::Symbol(Name::Itself(Id::new(0)), 1))?;
     let one = Piece::Number {
         link: Link::Plus,
         value: Natural::new(1),
         power: 1,
     };
-    Ok(Rewriting {
-        option: None,
-        pattern: Pattern::from_parts(pieces, Vec::new(alloc)),
-        right: Tree::from_vec(Vec::from_slice(alloc, &[one])?),
-    })
+    block_of(alloc, rewriting(alloc, &[one])?)
 }
 
 fn named(alloc: Global, position: u32) -> Result<Selection, AllocError> {
@@ -67,9 +65,18 @@ fn module_of(alloc: Global, value: u128, power: i32) -> Result<Module, AllocErro
     let mut statements = Vec::new(alloc);
     statements.push(Checked::Drop(named(alloc, 7)?))?;
     statements.push(Checked::Local(Id::new(4), right_side(alloc, value, power)?))?;
-    statements.push(Checked::Rewrite(false, rewriting(alloc)?))?;
     statements.push(Checked::Print(named(alloc, 4)?))?;
-    Ok(Module::from_vec(statements))
+    Ok(Module::new(statements, actions(alloc)?))
+}
+
+/// A program of that module alone.
+fn program_of(alloc: Global, value: u128, power: i32) -> Result<Program, AllocError>
+    ensures within { IfOk result (λ p. 0 < length p.modules) }
+    ensures trees { IfOk result (λ p. HaveTrees (module_at p 0)) }
+{
+    let mut modules = Vec::new(alloc);
+    modules.push(module_of(alloc, value, power)?)?;
+    Ok(Program::new(Names::new(alloc), modules))
 }
 
 /// Expressions 7 and 2, each of them the symbol 0.
@@ -87,6 +94,52 @@ fn standing(alloc: Global) -> Result<Vec<Stored>, AllocError> {
         })?;
     }
     Ok(all)
+}
+
+/// A program of a module without statements.
+fn empty_program(alloc: Global) -> Result<Program, AllocError>
+    ensures within { IfOk result (λ p. 0 < length p.modules) }
+    ensures trees { IfOk result (λ p. HaveTrees (module_at p 0)) }
+{
+    let mut modules = Vec::new(alloc);
+    let actions = Items::from_vec(Vec::new(alloc));
+    modules.push(Module::new(Vec::new(alloc), actions))?;
+    Ok(Program::new(Names::new(alloc), modules))
+}
+
+/// Expression 2, so many times the term 1.
+fn ones(alloc: Global, count: usize) -> Result<Vec<Stored>, AllocError> {
+    let mut terms = Vec::new(alloc);
+    for _one in 0..count {
+        terms.push(Monomial::unit(alloc))?;
+    }
+    let mut all = Vec::new(alloc);
+    all.push(Stored {
+        expression: Id::new(2),
+        terms: Terms::from_vec(terms),
+    })?;
+    Ok(all)
+}
+
+/// Whether so many ones come to their sum in a module without statements, where a result has at most so many terms.
+fn are_added(alloc: Global, count: usize, most: u64) -> Result<bool, AllocError> {
+    let program = empty_program(alloc)?;
+    let settings = Settings {
+        max_terms: most,
+        ..Settings::default()
+    };
+    match run_module(alloc, &settings, &program, 0, ones(alloc, count)?) {
+        Ok(report) => Ok(is_sum(&report.into_expressions(), count)),
+        Err(ModuleError::Refused(_, _)) => Ok(false),
+        Err(ModuleError::Memory) => Err(AllocError),
+    }
+}
+
+fn is_sum(after: &[Stored], count: usize) -> bool {
+    match after {
+        [only] => is_number(only, 2, count as i128),
+        _ => false,
+    }
 }
 
 /// Whether it is this expression, and of one term that is this number.
@@ -109,18 +162,19 @@ fn are_as_meant(after: &[Stored]) -> bool {
     }
 }
 
-/// Where the module is refused; 0 where it isn't, and what stands after it is as it should be.
-fn refused_at(alloc: Global, value: u128, power: i32) -> Result<u32, AllocError> {
-    let carried = module_of(alloc, value, power)?;
-    match run_module(alloc, &Settings::default(), &carried, standing(alloc)?) {
-        Ok(after) => Ok(u32::from(!are_as_meant(&after))),
-        Err(error) => place_of(error),
+/// Whether the module is refused, as the first of its program; or whether what stands after it is as it should be.
+fn is_refused(alloc: Global, value: u128, power: i32) -> Result<Option<bool>, AllocError> {
+    let program = program_of(alloc, value, power)?;
+    match run_module(alloc, &Settings::default(), &program, 0, standing(alloc)?) {
+        Ok(report) => Ok(are_as_meant(&report.into_expressions()).then_some(false)),
+        Err(error) => is_first(error),
     }
 }
 
-fn place_of(error: ModuleError) -> Result<u32, AllocError> {
+fn is_first(error: ModuleError) -> Result<Option<bool>, AllocError> {
     match error {
-        ModuleError::Refused(_, expression) => Ok(expression.position()),
+        ModuleError::Refused(_, Place::Run(1, _)) => Ok(Some(true)),
+        ModuleError::Refused(_, _) => Ok(None),
         ModuleError::Memory => Err(AllocError),
     }
 }
@@ -128,7 +182,16 @@ fn place_of(error: ModuleError) -> Result<u32, AllocError> {
 #[test]
 fn a_module_is_carried_out_or_refused(rt: HostRuntime) -> Result<(), Fail> {
     let alloc = rt.alloc();
-    assert_eq!(rt; refused_at(alloc, 3, 1)?, 0);
-    assert_eq!(rt; refused_at(alloc, 0, -1)?, 4);
+    assert_eq!(rt; is_refused(alloc, 3, 1)?, Some(false));
+    assert_eq!(rt; is_refused(alloc, 0, -1)?, Some(true));
+    Ok(())
+}
+
+#[test]
+fn what_stands_is_collected_without_statements_too(rt: HostRuntime) -> Result<(), Fail> {
+    let alloc = rt.alloc();
+    assert!(rt; are_added(alloc, 1, 1)?);
+    assert!(rt; are_added(alloc, 3, 1)?);
+    assert!(rt; !are_added(alloc, 1, 0)?);
     Ok(())
 }

@@ -1,8 +1,10 @@
-//! Tests of the calls on terms: fractions, coefficients inside arguments, terms, products, and lists of right sides.
+//! Tests of the calls on terms: fractions, coefficients inside arguments, terms, products, conditions, and lists of right sides.
 #![tactic(auto)]
 
 #[cfg(test)]
 mod coefficients;
+#[cfg(test)]
+mod conditions;
 #[cfg(test)]
 mod fractions;
 #[cfg(test)]

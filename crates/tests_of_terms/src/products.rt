@@ -4,8 +4,8 @@ ghost use Rattle.form_term.specs.Term.{largest_exponent};
 
 use form_base::{Cause, Id};
 use form_frac::Frac;
-use form_normal::{ProductError, has_room, product};
-use form_term::{Arguments, Call, Delta, Index, Monomial, Term};
+use form_normal::{ProductError, has_room, made_anew, product};
+use form_term::{Arguments, Call, Component, Delta, Index, Monomial, Others, Term};
 use std::alloc::{AllocError, Global};
 use std::test::Fail;
 
@@ -89,6 +89,49 @@ fn a_delta_of_fixed_indices_has_no_room(rt: HostRuntime) -> Result<(), Fail> {
     let call = of_indices(alloc, 7, 1)?;
     assert!(rt; !has_room(&delta(alloc, 2, 2)?, &call));
     assert!(rt; !has_room(&delta(alloc, 1, 2)?, &call));
+    Ok(())
+}
+
+/// A component of a vector, with this index.
+fn component(vector: u32, index: u32) -> Component {
+    Component {
+        vector: Id::new(vector),
+        index: Index::Fixed(index),
+    }
+}
+
+/// Components in the wrong order.
+fn components(alloc: Global) -> Result<Vec<Component>, AllocError> {
+    Vec::from_slice(alloc, &[component(1, 3), component(0, 4)])
+}
+
+/// A term made anew from these.
+fn anew(alloc: Global) -> Result<Option<Monomial>, AllocError> {
+    let components = components(alloc)?;
+    let others = Others {
+        is_imaginary: true,
+        dots: Vec::new(alloc),
+        components,
+        deltas: Vec::new(alloc),
+        functions: Vec::new(alloc),
+        word: Vec::new(alloc),
+    };
+    Ok(made(made_anew(alloc, Frac::whole(2), Vec::new(alloc), others)))
+}
+
+/// Whether it has these components in their order, and `i_`.
+fn is_in_order(item: Option<Monomial>) -> bool {
+    let Some(item) = item else {
+        return false;
+    };
+    let expected = [component(0, 4), component(1, 3)];
+    item.term.components() == expected.as_slice() && item.term.is_imaginary()
+}
+
+#[test]
+fn a_term_is_made_anew_in_order(rt: HostRuntime) -> Result<(), Fail> {
+    let alloc = rt.alloc();
+    assert!(rt; is_in_order(anew(alloc)?));
     Ok(())
 }
 

@@ -1,9 +1,11 @@
-//! Tests of the calls on texts: words, lines, calculations, tokens, right sides, statements, names, checked programs, what
-//! the preprocessor makes of a text, and what is printed.
+//! Tests of the calls on texts: words, lines, calculations, tokens, right sides, conditions, statements, names, checked
+//! programs, what the preprocessor makes of a text, and what is printed.
 #![tactic(auto)]
 
 #[cfg(test)]
 mod calculations;
+#[cfg(test)]
+mod conditions;
 #[cfg(test)]
 mod devices;
 #[cfg(test)]

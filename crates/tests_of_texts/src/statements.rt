@@ -1,6 +1,10 @@
 //! Programs against statements and spots that are written out by hand.
+ghost use Rattle.std.specs.Prelude.{IfOk};
+ghost use Rattle.form_ast.specs.Lawful.{AreLawfulModules};
 
-use form_ast::{Module, Rewrite, Statement, WrittenElements};
+use form_ast::{
+    Module, ModulePart, Outer, Rewrite, Side, WrittenAction, WrittenElements, WrittenLeaf,
+};
 use form_base::{Spot, Taking};
 use form_stmts::{Line, ProgramError, read_program};
 use std::alloc::{AllocError, Global};
@@ -13,31 +17,59 @@ fn count_of(elements: &WrittenElements) -> usize {
     }
 }
 
-/// That of an `id` or an `also`, by its option.
+/// That of an `id`, by its option.
 fn rewrite_letter(rewrite: &Rewrite) -> char {
     match rewrite.option {
         Some(Taking::Once) => '1',
         Some(Taking::Only) => '=',
         Some(Taking::Multi) => '*',
         Some(Taking::Many) => '+',
-        None if rewrite.is_also => 'a',
         None => 'r',
     }
 }
 
-/// A statement's letter, and how many names or pieces it has.
-fn letter(statement: &Statement) -> (char, usize) {
+/// The letter of a statement that stands in no block, and how many names or pieces it has.
+fn outer_letter(statement: &Outer) -> (char, usize) {
     match statement {
-        Statement::Names(_, names) => ('s', names.as_slice().len()),
-        Statement::Indices(indices) => ('i', indices.as_slice().len()),
-        Statement::Dimension(_) => ('n', 1),
-        Statement::Set(_, elements) => ('e', count_of(elements)),
-        Statement::Statistics => ('o', 0),
-        Statement::Drop(names) => ('d', names.as_slice().len()),
-        Statement::Skip(names) => ('k', names.as_slice().len()),
-        Statement::Local(_, expr) => ('l', expr.len()),
-        Statement::Rewrite(rewrite) => (rewrite_letter(rewrite), rewrite.pattern.as_slice().len()),
-        Statement::Print(names) => ('p', names.as_slice().len()),
+        Outer::Names(_, names) => ('s', names.as_slice().len()),
+        Outer::Indices(indices) => ('i', indices.as_slice().len()),
+        Outer::Dimension(_) => ('n', 1),
+        Outer::Set(_, elements) => ('e', count_of(elements)),
+        Outer::Statistics => ('o', 0),
+        Outer::Drop(names) => ('d', names.as_slice().len()),
+        Outer::Skip(names) => ('k', names.as_slice().len()),
+        Outer::Local(_, expr) => ('l', expr.len()),
+        Outer::Print(names) => ('p', names.as_slice().len()),
+    }
+}
+
+/// The letter of a statement that is no block, and how many `also`s, pieces, names or numbers it has.
+fn leaf_letter(leaf: &WrittenLeaf) -> (char, usize) {
+    match leaf {
+        WrittenLeaf::Rewrite(id, others) => (rewrite_letter(id), others.len()),
+        WrittenLeaf::Multiply(Side::Left, right) => ('<', right.as_slice().len()),
+        WrittenLeaf::Multiply(Side::Right, right) => ('>', right.as_slice().len()),
+        WrittenLeaf::Sum(names) => ('u', names.as_slice().len()),
+        WrittenLeaf::SumOver(_, numbers) => ('v', numbers.as_slice().len()),
+        WrittenLeaf::Discard => ('x', 0),
+    }
+}
+
+/// The letter of a statement that is carried out on terms. Of a block, how many statements, branches or functions it has.
+fn action_letter(action: &WrittenAction) -> (char, usize) {
+    match action {
+        WrittenAction::Plain(leaf) => leaf_letter(leaf),
+        WrittenAction::Repeat(block) => ('R', block.len()),
+        WrittenAction::Choose(branches, None) => ('I', branches.len()),
+        WrittenAction::Choose(branches, Some(_)) => ('E', branches.len()),
+        WrittenAction::Within(functions, _) => ('A', functions.as_slice().len()),
+    }
+}
+
+fn letter(part: &ModulePart) -> (char, usize) {
+    match part {
+        ModulePart::Outer(statement) => outer_letter(statement),
+        ModulePart::Action(action) => action_letter(action),
     }
 }
 
@@ -46,7 +78,7 @@ fn letters(alloc: Global, modules: &[Module]) -> Result<String, AllocError> {
     let mut letters = String::new(alloc);
     for module in modules {
         for placed in module.as_slice() {
-            let (c, count) = letter(&placed.statement);
+            let (c, count) = letter(&placed.part);
             let shown = format!(in alloc; "{c}{count}")?;
             letters.push_str(shown.as_str())?;
         }
@@ -55,8 +87,10 @@ fn letters(alloc: Global, modules: &[Module]) -> Result<String, AllocError> {
     Ok(letters)
 }
 
-/// The letters of a program, or the line at which its text is refused.
-fn read(alloc: Global, texts: &[&str]) -> Result<String, Fail> {
+/// What is read of lines, whose numbers are from 1 on.
+pub fn read_lines(alloc: Global, texts: &[&str]) -> Result<Result<Vec<Module>, ProgramError>, Fail>
+    ensures { IfOk result (λ read. IfOk read (λ modules. AreLawfulModules modules.items)) }
+{
     let mut lines = Vec::new(alloc);
     for (index, text) in texts.iter().enumerate() {
         let Ok(line) = u32::try_from(index + 1) else {
@@ -68,7 +102,12 @@ fn read(alloc: Global, texts: &[&str]) -> Result<String, Fail> {
         let spot = Spot { text: 0, line };
         lines.push(Line::new(spot, text.as_bytes()))?;
     }
-    match read_program(alloc, lines) {
+    Ok(read_program(alloc, lines))
+}
+
+/// The letters of a program, or the line at which its text is refused.
+fn read(alloc: Global, texts: &[&str]) -> Result<String, Fail> {
+    match read_lines(alloc, texts)? {
         Ok(modules) => Ok(letters(alloc, &modules)?),
         Err(ProgramError::BadSyntax(spot)) => {
             let line = spot.line;
@@ -96,5 +135,27 @@ fn reads_programs(rt: HostRuntime) -> Result<(), Fail> {
         ".end",
     ];
     assert_eq!(rt; read(rt.alloc(), &texts)?.as_str(), "s2i3n1s1o0s1.");
+    Ok(())
+}
+
+#[test]
+fn reads_blocks(rt: HostRuntime) -> Result<(), Fail> {
+    let texts = [
+        "Id once x = 1;; also x = 2; Multiply left, x; multiply left(x);",
+        "if (coefficient > 1); discard; elseif (match(x)); Else; sum mu,nu; endif;",
+        "argument f 1,2 g; endargument;",
+        "repeat if (1) sum mu,1,2,3;",
+        ".end",
+    ];
+    assert_eq!(rt; read(rt.alloc(), &texts)?.as_str(), "11<1>3E2A2R1.");
+    let texts = [
+        "if (1);",
+        "else;",
+        "repeat;",
+        "else;",
+        "endrepeat;",
+        "endif;",
+    ];
+    assert_eq!(rt; read(rt.alloc(), &texts)?.as_str(), "line 3");
     Ok(())
 }

@@ -4,9 +4,10 @@ use Rattle.std.proofs.lemmas.List.{nil_from_length}
 use Rattle.std.proofs.lemmas.Result.{err_from_is_err_and}
 use Rattle.form_term.specs.Term.{index, vector, pieces_of_argument}
 use Rattle.form_expand.specs.declared.product.Product.{Product}
+use Rattle.form_expand.specs.declared.stream.Stream.{Stream}
 use Rattle.form_expand.specs.Factors.{factor_left}
 use Rattle.form_expand.specs.Left.{Level, times_by}
-use Rattle.form_expand.specs.Listing.{nothing, refusal, limited, followed, signed}
+use Rattle.form_expand.specs.Listing.{Listing, nothing, refusal, limited, followed, signed}
 use Rattle.form_expand.specs.Moving.{Lessens, Shortens}
 use Rattle.form_expand.specs.Next.{Takes, Goes, progress_of}
 use Rattle.form_expand.specs.Products.{level_of, level_at_first, product_left, queued_of}
@@ -21,6 +22,7 @@ use Rattle.form_expand.specs.Parentheses.{whole_of}
 use Rattle.form_expand.specs.Walks.{all_of}
 use Rattle.form_expand.proofs.Moved.{shortens_made}
 use Rattle.form_expand.proofs.Keeping.{left_made, all_kept, one_kept, kept_past}
+use Rattle.form_expand.proofs.Measured.{all_within, none_wait, product_base, product_digits, product_falls, product_first, short_closed, short_done, short_opened, short_popped, short_taken, total}
 use Rattle.form_expand.proofs.Nearing.{lessens_given, product_popped, product_closed, product_opened}
 use Rattle.form_expand.proofs.Products.{levels_close, levels_give, levels_open, levels_refuse, levels_done, levels_same}
 use Rattle.form_expand.proofs.Streamed.{gives_from, stream_ungiven, stream_on, stream_done}
@@ -72,6 +74,12 @@ product::Level::take-returns-clause-fewer t c =
     let new = level_of max (record { factor = c.next_times.new.self; left = l.left; count = l.count + 1 }) in
     subst (λ (s : Level). Lessens (Ok (Some c.in-Some.term)) (level_of max l).opened s.opened) (sym (c.release.ensures max))
     (lessens_given (Ok (Some c.in-Some.term)) (level_of max l).opened new.opened gave)
+
+pub product::Level::take-returns-in_default-clause-list : goal.product::Level::take-returns-in_default-clause-list
+product::Level::take-returns-in_default-clause-list t c = c.in_ok-term.ensures.whole
+
+pub product::Level::take-returns-clause-list : goal.product::Level::take-returns-clause-list
+product::Level::take-returns-clause-list t c = ap (λ (s : Level). s.list) (c.release.ensures c.args.limit) ∙ c.in_ok-term.ensures.whole
 
 pub product::Product::step-returns-in_default-pop-clause-next : goal.product::Product::step-returns-in_default-pop-clause-next
 product::Product::step-returns-in_default-pop-clause-next t c =
@@ -133,52 +141,113 @@ product::Product::step-returns-clause-nearer t c =
     product_opened max c.args.self.now c.open.new.self c.in-Some.top c.take.new.self (level_at_first max queued (Some c.in-Some-2.term)) queued fewer
     c.in-Some.is (c.in_ok-open.ensures.top max) c.in_ok-open.ensures.kept (c.in-Some-pop-2.ensures.items ∙ ap (λ qs. qs ++ queued ∷ []) (sym c.open.ensures.waiting))
 
+pub product::Product::step-returns-in_default-pop-clause-short : goal.product::Product::step-returns-in_default-pop-clause-short
+product::Product::step-returns-in_default-pop-clause-short t c = λ most h.
+    let p = c.args.self.now in
+    let new : Product = record { top = p.top; below = c.pop.new.self; waiting = p.waiting } in
+    short_done c.args.limit most p new refl (emptied p.below c.in_default-pop.ensures.cases.0 ∙ sym (emptied c.pop.new.self c.in_default-pop.ensures.cases.1)) refl h
+
+pub product::Product::step-returns-in_default-clause-short : goal.product::Product::step-returns-in_default-clause-short
+product::Product::step-returns-in_default-clause-short t c = λ most h.
+    let p = c.args.self.now in
+    let new : Product = record { top = Some c.in-Some-pop.level; below = c.pop.new.self; waiting = p.waiting } in
+    short_popped c.args.limit most p new c.in-Some-pop.level c.in_default.is refl c.in-Some-pop.ensures.items refl h
+
+pub product::Product::step-returns-in_default-2-clause-short : goal.product::Product::step-returns-in_default-2-clause-short
+product::Product::step-returns-in_default-2-clause-short t c = λ most h.
+    short_closed c.args.limit most c.args.self.now c.close.new.self c.in-Some.top c.take.new.self c.in-Some.is c.close.ensures.top c.close.ensures.below c.in_ok-close.ensures.waiting c.in_ok-term.ensures.list h
+
+pub product::Product::step-returns-in_default-pop-2-clause-short : goal.product::Product::step-returns-in_default-pop-2-clause-short
+product::Product::step-returns-in_default-pop-2-clause-short t c = λ most h.
+    let fewer = rw c.in-Some-2.is at c.in_ok-term.ensures.fewer in
+    let none = emptied c.pop-2.new.self c.in_default-pop-2.ensures.cases.1 in (
+      short_taken c.args.limit most c.args.self.now c.in-Some.top c.take.new.self c.in-Some.is c.in_ok-term.ensures.list fewer h,
+      none_wait c.args.limit most c.pop-2.new.self.items none,
+    )
+
+pub product::Product::step-returns-clause-short : goal.product::Product::step-returns-clause-short
+product::Product::step-returns-clause-short t c = λ most h.
+    let max = c.args.limit in
+    let queued = c.in-Some-pop-2.queued in
+    let fewer = rw c.in-Some-2.is at c.in_ok-term.ensures.fewer in
+    short_opened max most c.args.self.now c.open.new.self c.in-Some.top c.take.new.self queued c.in-Some-2.term c.in-Some.is c.in_ok-term.ensures.list fewer
+    (c.in_ok-open.ensures.top max) c.in_ok-open.ensures.kept (c.in-Some-pop-2.ensures.items ∙ ap (λ qs. qs ++ queued ∷ []) (sym c.open.ensures.waiting)) h
+
+pub product::Product::next-turns-init : goal.product::Product::next-turns-init
+product::Product::next-turns-init t c = record { left = refl; few = omega arith; short = all_within c.args.limit c.args.self.now }
+
+pub product::Product::next-turns-preserved : goal.product::Product::next-turns-preserved
+product::Product::next-turns-preserved t c =
+    let max = c.args.limit in
+    let next = rw c.in-Moves.is at c.in_ok-step.ensures.next in
+    let near = rw c.in-Moves.is at c.in_ok-step.ensures.nearer in
+    record {
+      left = next ∙ c.turns.invariant.left;
+      few = omega (arith, product_first max c.step.new.self c.turns.self near, c.turns.invariant.few);
+      short = c.in_ok-step.ensures.short (total max c.args.self.now) c.turns.invariant.short;
+    }
+
+pub product::Product::next-turns-smaller : goal.product::Product::next-turns-smaller
+product::Product::next-turns-smaller t c =
+    let max = c.args.limit in
+    let start = c.args.self.now in
+    let near = rw c.in-Moves.is at c.in_ok-step.ensures.nearer in
+    let fewer = product_first max c.step.new.self c.turns.self near in
+    let short = c.in_ok-step.ensures.short (total max start) c.turns.invariant.short in
+    product_falls max (total max start) (product_base max start) (product_digits max start) c.step.new.self c.turns.self (omega (arith, fewer, c.turns.invariant.few)) (omega arith) short
+    (omega (arith, c.turns.invariant.few)) near
+
 pub stream::Stream::next-returns-in_err-term : goal.stream::Stream::next-returns-in_err-term
 unfolding stream_left
 stream::Stream::next-returns-in_err-term t c =
-    let s = c.loop.self in
+    let s = c.turns.self in
     let rest = list_of_pieces s.limit s.stored.now s.rest.now in
     let e = err_from_is_err_and c.from_residual.result c.from_residual.ensures.1 in
     let old = product_left s.limit s.product in
     let new = product_left s.limit c.next.new.self in
     rw (e.1, e.2)
-    (gives_from (Err (c.in_err-term.field-0.0)) _ (stream_left s) _ (sym c.loop.invariant)
+    (gives_from (Err (c.in_err-term.field-0.0)) _ (stream_left s) _ (sym c.turns.invariant)
     (stream_ungiven s.limit s.given s.is_minus rest (c.in_err-term.field-0.0) old new _ c.in_err-term.ensures))
 
 pub stream::Stream::next-returns-in-Some : goal.stream::Stream::next-returns-in-Some
 unfolding stream_left stream_before
 stream::Stream::next-returns-in-Some t c =
-    let s = c.loop.self in
+    let s = c.turns.self in
     let rest = list_of_pieces s.limit s.stored.now s.rest.now in
     let gave = rw c.in-Some.is at c.in_ok-term.ensures in
-    gives_from c.give.result _ _ _ (sym c.loop.invariant ∙ ap (λ l. limited (s.limit - s.given) (followed (signed s.is_minus l) rest)) gave) c.give.ensures
+    gives_from c.give.result _ _ _ (sym c.turns.invariant ∙ ap (λ l. limited (s.limit - s.given) (followed (signed s.is_minus l) rest)) gave) c.give.ensures
 
 pub stream::Stream::next-returns-then-is_empty : goal.stream::Stream::next-returns-then-is_empty
 unfolding stream_left
 stream::Stream::next-returns-then-is_empty t c =
-    let s = c.loop.self in
+    let s = c.turns.self in
     let gave = rw c.in_default.is at c.in_ok-term.ensures in
     let none = nil_from_length s.rest.now (eqb-true (length s.rest.now) 0 (sym c.is_empty.ensures ∙ c.if-is_empty.true)) in (
-      sym c.loop.invariant ∙ stream_done s.limit s.given s.is_minus s.stored.now s.rest.now (product_left s.limit s.product) gave.0 none,
+      sym c.turns.invariant ∙ stream_done s.limit s.given s.is_minus s.stored.now s.rest.now (product_left s.limit s.product) gave.0 none,
       stream_done s.limit s.given s.is_minus s.stored.now s.rest.now (product_left s.limit c.next.new.self) gave.1 none,
     )
 
-pub stream::Stream::next-loop-preserved : goal.stream::Stream::next-loop-preserved
+pub stream::Stream::next-turns-preserved : goal.stream::Stream::next-turns-preserved
 unfolding stream_left
-stream::Stream::next-loop-preserved t c =
-    let s = c.loop.self in
+stream::Stream::next-turns-preserved t c =
+    let s = c.turns.self in
     let rest = list_of_pieces s.limit s.stored.now s.rest.now in
     let gave = rw c.in_default.is at c.in_ok-term.ensures in
     c.in_ok-read.ensures.list
     ∙ ap stream_left (c.in_ok-term-2.ensures.none (ap Ok c.in_default-2.is))
     ∙ stream_on s.limit s.given s.is_minus rest (product_left s.limit c.next.new.self) gave.1
     ∙ sym (stream_on s.limit s.given s.is_minus rest (product_left s.limit s.product) gave.0)
-    ∙ c.loop.invariant
+    ∙ c.turns.invariant
+
+pub stream::Stream::next-turns-smaller : goal.stream::Stream::next-turns-smaller
+stream::Stream::next-turns-smaller t c =
+    let same = ap (λ (s : Stream). length s.rest.now) (c.in_ok-term-2.ensures.none (ap Ok c.in_default-2.is)) in
+    omega (arith, same, c.in_ok-read.ensures.shorter)
 
 pub stream::Stream::next-returns-in-Some-2 : goal.stream::Stream::next-returns-in-Some-2
 unfolding stream_left
 stream::Stream::next-returns-in-Some-2 t c =
-    let s = c.loop.self in
+    let s = c.turns.self in
     let rest = list_of_pieces s.limit s.stored.now s.rest.now in
     let gave = rw c.in_default.is at c.in_ok-term.ensures in
     let found = rw c.in-Some-2.is at c.in_ok-term-2.ensures.found in
@@ -186,7 +255,10 @@ stream::Stream::next-returns-in-Some-2 t c =
     (sym (found
     ∙ stream_on s.limit s.given s.is_minus rest (product_left s.limit c.next.new.self) gave.1
     ∙ sym (stream_on s.limit s.given s.is_minus rest (product_left s.limit s.product) gave.0)
-    ∙ c.loop.invariant)) c.give-in-Some-2.ensures
+    ∙ c.turns.invariant)) c.give-in-Some-2.ensures
+
+pub parenthesis::Parenthesis::next_times-turns-smaller : goal.parenthesis::Parenthesis::next_times-turns-smaller
+parenthesis::Parenthesis::next_times-turns-smaller t c = rw c.in-Moves.is at c.in_ok-step_times.ensures.shorter
 
 pub parenthesis::Parenthesis::step_times-returns-in_err-term-clause-next : goal.parenthesis::Parenthesis::step_times-returns-in_err-term-clause-next
 parenthesis::Parenthesis::step_times-returns-in_err-term-clause-next t c =
@@ -315,13 +387,19 @@ function::read_expression-returns-in_default-clause-read t c = λ f k args e.
           ∙ sym (read_none all (record { top = in_function (called max f k args); outer = [] }));
     }
 
-pub function::collected-loop-init : goal.function::collected-loop-init
-function::collected-loop-init t c = none_taken c.new-collector.result (stream_left c.args.list.now) c.new-collector.ensures
+pub function::collected-turns-init : goal.function::collected-turns-init
+function::collected-turns-init t c = none_taken c.new-collector.result (stream_left c.args.list.now) c.new-collector.ensures
 
-pub function::collected-loop-preserved : goal.function::collected-loop-preserved
-function::collected-loop-preserved t c =
-    let inv = c.loop.invariant in
-    one_taken c.loop.collector c.add.new.self (stream_left c.args.list.now) (stream_left c.loop.list) (stream_left c.next.new.self) c.in-Ok-Some.term inv (c.in_ok-add-in-Ok-Some.ensures.ok inv.done inv.stands) (rw c.in-Ok-Some.field-0-is at c.in-Ok-Some.ensures)
+pub function::collected-turns-preserved : goal.function::collected-turns-preserved
+function::collected-turns-preserved t c =
+    let inv = c.turns.invariant in
+    one_taken c.turns.collector c.add.new.self (stream_left c.args.list.now) (stream_left c.turns.list) (stream_left c.next.new.self) c.in-Ok-Some.term inv (c.in_ok-add-in-Ok-Some.ensures.ok inv.done inv.stands) (rw c.in-Ok-Some.field-0-is at c.in-Ok-Some.ensures)
+
+pub function::collected-turns-smaller : goal.function::collected-turns-smaller
+function::collected-turns-smaller t c =
+    let gave = rw c.in-Ok-Some.field-0-is at c.in-Ok-Some.ensures in
+    let long = ap (λ (l : Listing). length l.terms) gave in
+    omega (arith, long)
 
 pub function::read_argument-returns-in-Argument-clause-read : goal.function::read_argument-returns-in-Argument-clause-read
 function::read_argument-returns-in-Argument-clause-read t c =
@@ -361,12 +439,12 @@ function::read_expression-returns-clause-read t c = λ f k args e.
 pub function::collected-returns-in-Ok-None : goal.function::collected-returns-in-Ok-None
 function::collected-returns-in-Ok-None t c =
     let gave = rw c.in-Ok-None.field-0-is at c.in-Ok-None.ensures in
-    collected_all c.loop.collector (stream_left c.args.list.now) (stream_left c.loop.list) c.loop.invariant c.terms_of.result gave.0 c.terms_of.ensures
+    collected_all c.turns.collector (stream_left c.args.list.now) (stream_left c.turns.list) c.turns.invariant c.terms_of.result gave.0 c.terms_of.ensures
 
 pub function::collected-returns-in-Err-Refused : goal.function::collected-returns-in-Err-Refused
 function::collected-returns-in-Err-Refused t c =
-    let inv = c.loop.invariant in
-    rw c.in-Err-Refused.field-0-is (refused_argument inv.done (stream_left c.args.list.now) (stream_left c.loop.list) c.in-Err-Refused.cause inv.taken (rw c.in-Err-Refused.field-0-is at c.in-Err-Refused.ensures))
+    let inv = c.turns.invariant in
+    rw c.in-Err-Refused.field-0-is (refused_argument inv.done (stream_left c.args.list.now) (stream_left c.turns.list) c.in-Err-Refused.cause inv.taken (rw c.in-Err-Refused.field-0-is at c.in-Err-Refused.ensures))
 
 pub function::read_argument-returns-in_default-piece : goal.function::read_argument-returns-in_default-piece
 function::read_argument-returns-in_default-piece t c =

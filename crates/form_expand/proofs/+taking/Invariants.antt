@@ -1,11 +1,12 @@
-use Rattle.std.proofs.Common.{◌≡◌, ◌+◌, ◌*◌, length}
+use Rattle.std.proofs.Common.{◌≡◌, ◌+◌, ◌*◌, ◌≤◌, length}
 use Rattle.form_expand.specs.Calls.{IsFurther}
 use Rattle.form_expand.specs.Left.{times_by}
-use Rattle.form_expand.specs.Products.{product_left}
+use Rattle.form_expand.specs.Products.{AreShort, product_distance, product_left}
 use Rattle.form_expand.specs.Reading.{calling}
 use Rattle.form_expand.specs.Readers.{list_of_calling}
 use Rattle.form_expand.specs.Streams.{stream_left}
 use Rattle.form_expand.proofs.Called.{AreTaken}
+use Rattle.form_expand.proofs.Measured.{first, product_base, product_digits, total, value}
 use Rattle.form_expand.proofs.+taking.Given as goal
 
 -- each call goes one function further, or into a parenthesis
@@ -46,17 +47,32 @@ decreases-function::read_expression l = l.deeper * 12 + 2
 abbrev pub decreases-function::collected : goal.decreases-function::collected
 decreases-function::collected l = l.deeper * 12 + 1
 
-abbrev pub invariant-stream::Stream::next-loop : goal.invariant-stream::Stream::next-loop
-invariant-stream::Stream::next-loop l = stream_left l.self ≡ stream_left l.initial.self
+abbrev pub invariant-stream::Stream::next-turns : goal.invariant-stream::Stream::next-turns
+invariant-stream::Stream::next-turns l = stream_left l.self ≡ stream_left l.initial.self
 
-abbrev pub invariant-product::Product::next-loop : goal.invariant-product::Product::next-loop
-invariant-product::Product::next-loop l = product_left l.limit l.self ≡ product_left l.limit l.initial.self
+-- each turn reads a product
+abbrev pub decreases-stream::Stream::next-turns : goal.decreases-stream::Stream::next-turns
+decreases-stream::Stream::next-turns l = length l.self.rest.now
 
-abbrev pub invariant-parenthesis::Parenthesis::next_times-loop : goal.invariant-parenthesis::Parenthesis::next_times-loop
-invariant-parenthesis::Parenthesis::next_times-loop l = record {
+abbrev pub invariant-product::Product::next-turns : goal.invariant-product::Product::next-turns
+invariant-product::Product::next-turns l = record {
+  left : product_left l.limit l.self ≡ product_left l.limit l.initial.self;
+  few : first (product_distance l.limit l.self) ≤ first (product_distance l.limit l.initial.self);
+  short : AreShort l.limit (total l.limit l.initial.self) l.self;
+}
+
+-- each turn comes nearer to the end
+abbrev pub decreases-product::Product::next-turns : goal.decreases-product::Product::next-turns
+decreases-product::Product::next-turns l = value (product_base l.limit l.initial.self) (product_digits l.limit l.initial.self) (product_distance l.limit l.self)
+
+abbrev pub invariant-parenthesis::Parenthesis::next_times-turns : goal.invariant-parenthesis::Parenthesis::next_times-turns
+invariant-parenthesis::Parenthesis::next_times-turns l = record {
   left : times_by l.left l.self.left ≡ times_by l.left l.initial.self.left;
   whole : l.self.whole ≡ l.initial.self.whole;
 }
+
+abbrev pub decreases-parenthesis::Parenthesis::next_times-turns : goal.decreases-parenthesis::Parenthesis::next_times-turns
+decreases-parenthesis::Parenthesis::next_times-turns l = length l.self.left.terms
 
 -- the arguments before are read
 abbrev pub invariant-function::written_out-loop-rest : goal.invariant-function::written_out-loop-rest
@@ -67,5 +83,8 @@ abbrev pub decreases-function::written_out-loop-rest : goal.decreases-function::
 decreases-function::written_out-loop-rest l = length l.rest
 
 -- these terms were taken from the list
-abbrev pub invariant-function::collected-loop : goal.invariant-function::collected-loop
-invariant-function::collected-loop l = AreTaken l.collector (stream_left l.initial.list) (stream_left l.list)
+abbrev pub invariant-function::collected-turns : goal.invariant-function::collected-turns
+invariant-function::collected-turns l = AreTaken l.collector (stream_left l.initial.list) (stream_left l.list)
+
+abbrev pub decreases-function::collected-turns : goal.decreases-function::collected-turns
+decreases-function::collected-turns l = length (stream_left l.list).terms

@@ -9,10 +9,6 @@ returns-clause-some c = some_outcome (record {
   one_program = c.one_reading.ensures.one_program;
   one_refusal = c.one_reading.ensures.one_refusal;
   never_both = c.one_reading.ensures.never_both;
-  lawful = c.right_sides_are_lawful.ensures;
-  sound = c.checked_programs_are_sound.ensures;
-  some_module = c.one_module_outcome.ensures.some;
-  one_module = c.one_module_outcome.ensures.one;
 })
 
 pub returns-clause-unique : goal.returns-clause-unique
@@ -23,8 +19,4 @@ returns-clause-unique c = unique_outcome (record {
   one_program = c.one_reading.ensures.one_program;
   one_refusal = c.one_reading.ensures.one_refusal;
   never_both = c.one_reading.ensures.never_both;
-  lawful = c.right_sides_are_lawful.ensures;
-  sound = c.checked_programs_are_sound.ensures;
-  some_module = c.one_module_outcome.ensures.some;
-  one_module = c.one_module_outcome.ensures.one;
 })

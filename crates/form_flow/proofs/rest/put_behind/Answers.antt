@@ -2,4 +2,4 @@ use Rattle.form_flow.proofs.Behind.{so_named}
 use Rattle.form_flow.proofs.rest.put_behind.Goals as goal
 
 pub returns : goal.returns
-returns c = λ s is. so_named c.args.limit s c.args.times c.args.behind.items c.bound-names.result c.args.bindings c.put_times.result c.bound-names.ensures (c.put_times.ensures s is)
+returns c = so_named c.args.limit c.args.right.now c.args.times c.args.behind.items c.bound-names.result c.args.bindings c.put_times.result c.bound-names.ensures c.put_times.ensures

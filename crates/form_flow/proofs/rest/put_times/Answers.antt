@@ -1,11 +1,12 @@
-use Rattle.std.proofs.Common.{map}
+use Rattle.std.proofs.Common.{◌≡◌, ◌++◌, IfOk, Option, replicate, subst, sym}
 use Rattle.form_expand.specs.Expanding.{list_of_sum}
-use Rattle.form_expand.specs.Parts.{part_list}
+use Rattle.form_expand.specs.Meanings.{Meanings}
+use Rattle.form_expand.specs.Runs.{lists_of}
 use Rattle.form_flow.specs.Rests.{names_in}
-use Rattle.form_flow.proofs.Behind.{one_behind}
 use Rattle.form_flow.proofs.rest.put_times.Goals as goal
 
-pub loop-made-preserved : goal.loop-made-preserved
-loop-made-preserved c = λ s is.
-    one_behind c.args.limit c.loop-made.behind.items c.push.new.self.items c.in_ok-right_side.field-0 (map (part_list c.args.limit) c.args.behind.items)
-    c.loop-made._made (list_of_sum c.args.limit (names_in c.args.names.now) s) (c.loop-made.invariant s is) c.in_ok-push.ensures.items (c.in_ok-right_side.ensures s is)
+pub returns-in-None : goal.returns-in-None
+returns-in-None c =
+    let max = c.args.limit in
+    subst (λ (names : Option Meanings). IfOk c.put_unbound.result (λ lists. lists_of max lists.items ≡ lists_of max c.args.behind.items ++ replicate c.args.times (list_of_sum max (names_in names) c.args.right.now)))
+    (sym c.in-None.is) c.put_unbound.ensures

@@ -1,16 +1,19 @@
-use Rattle.std.proofs.Common.{◌+◌, length, refl, sym, ◌∙◌}
+use Rattle.std.proofs.Common.{◌+◌, length, refl, sym, ◌∙◌, arith}
 use Rattle.form_tree.specs.declared.pattern.PatternPiece.TheVariants as pieces
 use Rattle.form_match.specs.declared.frames.Frame.TheVariants as frames
 use Rattle.form_match.specs.declared.frames.Attempt.{Attempt}
 use Rattle.form_match.specs.declared.frames.Attempt.TheVariants as attempts
 use Rattle.form_match.specs.Attempts.{IsAttempt}
 use Rattle.form_match.specs.Frames.{around_at}
-use Rattle.form_match.proofs.Attempting.{answered, moved, none_any}
+use Rattle.form_match.proofs.Attempting.{answered, first_within, moved, none_any}
 use Rattle.form_match.proofs.Somewhere.{wildcard_fails, wildcard_made}
 use Rattle.form_match.proofs.arguments.attempt_any.Goals as goal
 
 pub ask_argument-requires : goal.ask_argument-requires
 ask_argument-requires c = let first = c.in-Some.ensures in first.front_lawful
+
+pub go_on-requires : goal.go_on-requires
+go_on-requires c = omega (arith, c.requires.room, first_within c.in-Some.ensures)
 
 pub returns-in_default-clause-tried : goal.returns-in_default-clause-tried
 returns-in_default-clause-tried c = λ g table is os stands.

@@ -1,12 +1,15 @@
-use Rattle.std.proofs.Common.{◌+◌, length, refl, sym, ◌∙◌}
+use Rattle.std.proofs.Common.{◌+◌, length, refl, sym, ◌∙◌, arith}
 use Rattle.form_tree.specs.declared.pattern.PatternPiece.TheVariants as pieces
 use Rattle.form_match.specs.declared.frames.Frame.TheVariants as frames
 use Rattle.form_match.specs.declared.frames.Attempt.{Attempt}
 use Rattle.form_match.specs.declared.frames.Attempt.TheVariants as attempts
 use Rattle.form_match.specs.Attempts.{IsAttempt, table_of}
 use Rattle.form_match.specs.Frames.{around_at}
-use Rattle.form_match.proofs.Attempting.{answered, first_there, fixed_fails, fixed_made, moved, none_fixed}
+use Rattle.form_match.proofs.Attempting.{answered, first_there, first_within, fixed_fails, fixed_made, moved, none_fixed}
 use Rattle.form_match.proofs.arguments.attempt_fixed.Goals as goal
+
+pub go_on-requires : goal.go_on-requires
+go_on-requires c = omega (arith, c.requires.room, first_within c.in-Some.ensures)
 
 pub returns-in_default : goal.returns-in_default
 returns-in_default c = λ g bs is os stands.

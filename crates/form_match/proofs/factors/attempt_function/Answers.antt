@@ -16,8 +16,8 @@ returns-then-not-is_free-clause-tried c = λ g table is os stands.
     c.in-Some.ensures ∙ ap (λ cs. slice_get cs c.args.candidate) (c.functions.ensures ∙ ap (λ t. t.others.functions) c.term.ensures) in
     function_clashes table c.args.steps.now g c.args.at os c.args.bindings.now c.args.bindings.now c.requires stands c.args.name.now c.args.candidate c.in-Some.call.now
     (subst (λ (h : Host). slice_get h.term.others.functions c.args.candidate ≡ Some c.in-Some.call.now) is (sym found))
-    c.in_ok-place.place c.in_ok-place.ensures
-    (not_false (list_any (λ v. clashes v (uses.Function c.in_ok-place.place)) (uses_at c.args.steps.now c.args.at)) (sym c.is_free.ensures ∙ c.if-not-is_free.true))
+    c.args.candidate refl
+    (not_false (list_any (λ v. clashes v (uses.Function c.args.candidate)) (uses_at c.args.steps.now c.args.at)) (sym c.is_free.ensures ∙ c.if-not-is_free.true))
 
 pub returns-then-not-branch-clause-tried : goal.returns-then-not-branch-clause-tried
 returns-then-not-branch-clause-tried c = λ g table is os stands.
@@ -33,7 +33,7 @@ returns-clause-tried c = λ g table is os stands.
     c.in-Some.ensures ∙ ap (λ cs. slice_get cs c.args.candidate) (c.functions.ensures ∙ ap (λ t. t.others.functions) c.term.ensures) in
     function_made table c.args.steps.now g c.args.at os c.args.bindings.now c.ask_function.new.bindings c.requires stands c.args.name.now c.args.candidate c.in-Some.call.now
     (subst (λ (h : Host). slice_get h.term.others.functions c.args.candidate ≡ Some c.in-Some.call.now) is (sym found))
-    c.in_ok-place.place (length c.args.steps.now) c.in_ok-place.ensures
-    (not_true (list_any (λ v. clashes v (uses.Function c.in_ok-place.place)) (uses_at c.args.steps.now c.args.at)) (sym c.is_free.ensures ∙ c.if-not-is_free.false))
+    c.args.candidate (length c.args.steps.now) refl
+    (not_true (list_any (λ v. clashes v (uses.Function c.args.candidate)) (uses_at c.args.steps.now c.args.at)) (sym c.is_free.ensures ∙ c.if-not-is_free.false))
     (subst (λ f. Tells true (learnt_of c.args.bindings.now (asked_function c.args.name.now f)) c.ask_function.new.bindings) c.function.ensures (rw c.if-not-branch.false at c.in_ok-ask_function.ensures.told))
     c.lawful_arguments.ensures refl

@@ -10,11 +10,11 @@ loop-call-init c = (refl, refl, λ h. refl)
 pub returns-then-branch : goal.returns-then-branch
 returns-then-branch c = λ h is.
     let T = table_of c.args.fixed.now in
-    let u = uses.Function c.in_ok-number.number in
+    let u = uses.Function c.loop-call.place in
     let found = rw c.if-branch.true at (c.in_ok-take_call.ensures.told h (c.args.takes.now ++ u ∷ [])) in
     all_functions T c.args.name.now c.args.behind.now h c.args.takes.now c.args.bindings.now c.args.functions.now is
     ∙ c.loop-call.invariant.2 h
-    ∙ taken_here T c.args.name.now c.args.behind.now h c.args.takes.now c.args.bindings.now c.loop-call.bindings c.loop-call.invariant.1 c.args.functions.now c.loop-call.call-index c.loop-call.place c.in_ok-number.number c.in_ok-number.ensures
+    ∙ taken_here T c.args.name.now c.args.behind.now h c.args.takes.now c.args.bindings.now c.loop-call.bindings c.loop-call.invariant.1 c.args.functions.now c.loop-call.call-index c.loop-call.place c.loop-call.place refl
     c.call-item.result c.loop-call-test.true c.call-item.is (sym c.clashes.ensures ∙ c.if-clashes.false) (record { takes = c.args.takes.now ++ u ∷ []; bindings = c.take_call.new.bindings }) found
 
 pub loop-call-preserved-then-clashes : goal.loop-call-preserved-then-clashes
@@ -23,20 +23,20 @@ loop-call-preserved-then-clashes c = (
   c.loop-call.invariant.1,
   λ h.
       c.loop-call.invariant.2 h
-      ∙ clashes_here (table_of c.args.fixed.now) c.args.name.now c.args.behind.now h c.args.takes.now c.args.bindings.now c.args.functions.now c.loop-call.call-index c.loop-call.place c.in_ok-number.number c.in_ok-number.ensures
+      ∙ clashes_here (table_of c.args.fixed.now) c.args.name.now c.args.behind.now h c.args.takes.now c.args.bindings.now c.args.functions.now c.loop-call.call-index c.loop-call.place c.loop-call.place refl
       c.call-item.result c.loop-call-test.true c.call-item.is (sym c.clashes.ensures ∙ c.if-clashes.true),
 )
 
 pub loop-call-preserved : goal.loop-call-preserved
 loop-call-preserved c =
     let T = table_of c.args.fixed.now in
-    let u = uses.Function c.in_ok-number.number in (
+    let u = uses.Function c.loop-call.place in (
       ap (λ k. k + 1) c.loop-call.invariant.0,
       cut_back c.count-count.result c.args.bindings.now c.loop-call.bindings c.take_call.new.bindings c.cut_to.new.self c.count-count.ensures c.loop-call.invariant.1 c.take_call.ensures.kept c.cut_to.ensures,
       λ h.
           let none = rw c.if-branch.false at (c.in_ok-take_call.ensures.told h (c.args.takes.now ++ u ∷ [])) in
           c.loop-call.invariant.2 h
-          ∙ not_taken_here T c.args.name.now c.args.behind.now h c.args.takes.now c.args.bindings.now c.loop-call.bindings c.loop-call.invariant.1 c.args.functions.now c.loop-call.call-index c.loop-call.place c.in_ok-number.number c.in_ok-number.ensures
+          ∙ not_taken_here T c.args.name.now c.args.behind.now h c.args.takes.now c.args.bindings.now c.loop-call.bindings c.loop-call.invariant.1 c.args.functions.now c.loop-call.call-index c.loop-call.place c.loop-call.place refl
           c.call-item.result c.loop-call-test.true c.call-item.is (sym c.clashes.ensures ∙ c.if-clashes.false) none,
     )
 

@@ -45,3 +45,20 @@ pub call_match-requires : goal.call_match-requires
 call_match-requires c =
     let call = rw c.in-Some.is at c.in_ok-powers.ensures.call in
     sym (ap is_call_alone (c.in-Some-split_first.ensures.cases.0 ∙ ap (λ (p : PatternPiece). p ∷ c.in-Some-split_first.behind.now) c.in-Function.is)) ∙ call
+
+pub returns-in-Word : goal.returns-in-Word
+returns-in-Word c =
+    let T = table_of c.args.outermost.now.fixed.now in
+    let behind = c.in-Some-split_first.behind.now in
+    let all = rw c.in-Some.is at (c.in_ok-powers.ensures.behind T) in
+    subst (λ (found : Option Match). IfOk c.word_match.result (λ b. Finds b found c.word_match.new.takes c.word_match.new.bindings))
+    (sym (all
+    ∙ ap (λ (ps : List PatternPiece). first_found (reach T ps (state (factors c.outer-host.result c.take_powers.new.takes ∷ []) c.take_powers.new.bindings)))
+    (c.in-Some-split_first.ensures.cases.0 ∙ ap (λ (p : PatternPiece). p ∷ behind) c.in-Word.is))
+    ∙ begun T c.args.pieces.now c.outer-host.result (outer c.args.outermost.now.term.now c.args.outermost.now.cuts.now c.args.outermost.now.is_exact) c.args.takes.now c.args.bindings.now c.outer-host.ensures c.requires.untaken c.requires.unbound)
+    c.word_match.ensures
+
+pub word_match-requires : goal.word_match-requires
+word_match-requires c =
+    let call = rw c.in-Some.is at c.in_ok-powers.ensures.call in
+    sym (ap is_call_alone (c.in-Some-split_first.ensures.cases.0 ∙ ap (λ (p : PatternPiece). p ∷ c.in-Some-split_first.behind.now) c.in-Word.is)) ∙ call

@@ -5,5 +5,5 @@ use Rattle.form_module.proofs.expression_set.printed.Goals as goal
 
 pub loop-statement-preserved : goal.loop-statement-preserved
 loop-statement-preserved c = λ e.
-    any_more (is_print e) c.as_slice-statement-items.result.now c.loop-statement.statement-index c.statement-item.result (has c.loop-statement.set e) (has c.add_printed.new.self e)
+    any_more (is_print e) c.statements-statement-items.result.now c.loop-statement.statement-index c.statement-item.result (has c.loop-statement.set e) (has c.add_printed.new.self e)
     c.loop-statement-test.true c.statement-item.is (c.loop-statement.invariant e) (c.in_ok-add_printed.ensures e)

@@ -1,4 +1,4 @@
-use Rattle.std.proofs.Common.{◌≡◌, ℕ, ◌&&◌, not, List, map, take, fold}
+use Rattle.std.proofs.Common.{◌≡◌, ℕ, not, List, map, take, fold}
 use Rattle.form_check.specs.declared.checked.Checked.{Checked}
 use Rattle.form_module.specs.Places.{work_at}
 use Rattle.form_module.specs.Sets.{has}
@@ -7,5 +7,5 @@ use Rattle.form_module.proofs.works.add_standing.Given as goal
 
 -- with the expressions so far
 abbrev pub invariant-loop-one : goal.invariant-loop-one
-invariant-loop-one l = (s : List Checked) → ((e : ℕ) → goes_through s e ≡ (l.rewrites && not (has l.held e))) →
+invariant-loop-one l = (s : List Checked) → ((e : ℕ) → goes_through s e ≡ not (has l.held e)) →
     map (work_at s) l.works.entries ≡ fold (and_standing s) (map (work_at s) l.fn.works.entries) (take l.one-index l.standing)

@@ -1,7 +1,13 @@
+use Rattle.std.proofs.Common.{ap}
 use Rattle.std.proofs.lemmas.Result.{err_from_is_err_and}
 use Rattle.form_right_side.specs.Marks.{stands_in}
+use Rattle.form_pattern.specs.PatternWalking.{open_at}
+use Rattle.form_pattern.specs.declared.reading.Reading.{Reading}
 use Rattle.form_pattern.proofs.PatternWhole.{pattern-given, pattern-refused}
 use Rattle.form_pattern.proofs.reading.pattern.Goals as goal
+
+pub walked-requires : goal.walked-requires
+walked-requires c = ap (λ (r : Reading). open_at r.place) c.start.ensures
 
 pub returns-in_err-reading : goal.returns-in_err-reading
 returns-in_err-reading c =

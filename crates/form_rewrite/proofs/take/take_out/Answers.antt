@@ -1,10 +1,12 @@
 use Rattle.std.proofs.Common.{◌≡◌, None, true, [], ◌∷◌, refl, ap, subst, sym, ◌∙◌}
 use Rattle.std.specs.List.{list_all}
+use Rattle.form_match.specs.Fits.{Fits}
 use Rattle.form_match.specs.Left.{left_of}
+use Rattle.form_match.specs.Ready.{is_plain_piece}
 use Rattle.form_rewrite.specs.Taking.{option_by, taken_so_far}
 use Rattle.form_rewrite.specs.Ways.{IsOnce, all_more, leaves_words, taken_by}
 use Rattle.form_rewrite.specs.Taking.{untouched}
-use Rattle.form_rewrite.proofs.Options.{decided, decided_by, decided_well}
+use Rattle.form_rewrite.proofs.Options.{decided, decided_by, decided_well, fits_often}
 use Rattle.form_rewrite.proofs.Ways.{by_end, by_many}
 use Rattle.form_rewrite.proofs.take.take_out.Goals as goal
 
@@ -15,9 +17,14 @@ returns-in_default-clause-taken c = λ fs is.
 
 pub returns-then-not-is_alone-clause-taken : goal.returns-then-not-is_alone-clause-taken
 returns-then-not-is_alone-clause-taken c = λ fs is.
+    let m = c.in-Some.found in
+    let first = sym c.in-Some.is ∙ c.in_ok-found.ensures.first fs is in
+    let fit : Fits m.takes c.args.term = rw c.in-Some.is at c.in_ok-found.ensures.fits in
+    let often = fits_often c.option_of-option.result c.args.option c.args.pattern.now.pieces c.args.term m.takes c.option_of-option.ensures
+    (λ plain. c.plain_patterns_fit.ensures c.args.pattern.now.fixed fs c.args.term c.args.cuts.now c.is_exact.result m (ap (λ ps. list_all is_plain_piece ps) (sym is) ∙ plain) (sym first) fit) in
     decided_well c.args.pattern.now.fixed fs c.args.option c.args.term c.args.cuts.now c.is_exact.result c.in-Some.found c.option_of-option.result (taken_by c.option_of-option.result c.args.pattern.now.fixed fs (untouched c.args.term c.args.cuts.now) c.in-Some.found)
     c.is_exact.ensures (sym c.in-Some.is ∙ c.in_ok-found.ensures.first fs is) (c.option_of-option.ensures ∙ ap (option_by c.args.option) is)
-    refl c.take_several.result (c.take_several.ensures.taken fs is)
+    refl c.take_several.result (c.take_several.ensures.taken fs is often)
 
 pub returns-then-branch-clause-taken : goal.returns-then-branch-clause-taken
 returns-then-branch-clause-taken c = λ fs is.

@@ -2,7 +2,8 @@ use Rattle.std.proofs.Common.{◌++◌, ◌∷◌, [], sym, ap, ◌∙◌, appen
 use Rattle.std.specs.Vec.Iter.{into_iter_items}
 use Rattle.std.proofs.lemmas.Result.{err_from_is_err_and}
 use Rattle.form_stmts.specs.Line.{PlacedLine}
-use Rattle.form_stmts.proofs.Lines.{nothing_left, reads_line, refused_at_line, program_read, lawful_read}
+use Rattle.form_blocks.specs.Blocks.{fault_at_end}
+use Rattle.form_stmts.proofs.Lines.{refused_here, refused_read, nothing_left, reads_line, refused_at_line, program_read, lawful_read}
 use Rattle.form_stmts.proofs.program.read_program.Goals as goal
 
 pub loop-line-preserved : goal.loop-line-preserved
@@ -19,8 +20,12 @@ returns-in_err-take_line-clause-refused c =
     (ap (λ (rest : List PlacedLine). c.loop-line.yielded ++ rest) (sym c.in-Some.ensures.steps.0) ∙ c.loop-line.invariant.split)
     c.loop-line.invariant.read c.in_err-take_line.ensures.refused)
 
-pub returns-clause-program : goal.returns-clause-program
-returns-clause-program c = program_read c.args.lines.items c.loop-line.yielded (into_iter_items c.loop-line.line-iterator) c.loop-line.reader c.loop-line.invariant.split (nothing_left c.loop-line.line-iterator c.in-None.ensures.steps.0) c.loop-line.invariant.read
+pub returns-in-Ok-clause-program : goal.returns-in-Ok-clause-program
+returns-in-Ok-clause-program c = program_read c.args.lines.items c.loop-line.yielded (into_iter_items c.loop-line.line-iterator) c.loop-line.reader c.loop-line.invariant.split (nothing_left c.loop-line.line-iterator c.in-None.ensures.steps.0) c.in-Ok.ensures.done.0 c.loop-line.invariant.read
 
-pub returns-clause-lawful : goal.returns-clause-lawful
-returns-clause-lawful c = lawful_read c.args.lines.items c.loop-line.reader.modules.items (program_read c.args.lines.items c.loop-line.yielded (into_iter_items c.loop-line.line-iterator) c.loop-line.reader c.loop-line.invariant.split (nothing_left c.loop-line.line-iterator c.in-None.ensures.steps.0) c.loop-line.invariant.read)
+pub returns-in-Ok-clause-lawful : goal.returns-in-Ok-clause-lawful
+returns-in-Ok-clause-lawful c = lawful_read c.args.lines.items c.loop-line.reader.modules.items (program_read c.args.lines.items c.loop-line.yielded (into_iter_items c.loop-line.line-iterator) c.loop-line.reader c.loop-line.invariant.split (nothing_left c.loop-line.line-iterator c.in-None.ensures.steps.0) c.in-Ok.ensures.done.0 c.loop-line.invariant.read)
+
+pub returns-clause-refused : goal.returns-clause-refused
+returns-clause-refused c = refused_read c.args.lines.items c.loop-line.yielded (into_iter_items c.loop-line.line-iterator) c.loop-line.reader c.in-Err.spot c.loop-line.invariant.split (nothing_left c.loop-line.line-iterator c.in-None.ensures.steps.0)
+    (refused_here (fault_at_end c.loop-line.reader.current) c.in-Err.ensures.refused.0 c.in-Err.spot c.in-Err.ensures.refused.1 c.in-Err.ensures.refused.2) c.loop-line.invariant.read

@@ -1,4 +1,4 @@
-use Rattle.std.proofs.Common.{◌≡◌, ◌∷◌, ◌++◌, [], List, map, length, Result, Ok, Err, ap, ◌∙◌, rules}
+use Rattle.std.proofs.Common.{◌≡◌, ◌∷◌, ◌++◌, [], List, map, length, Result, Ok, Err, ap, ◌∙◌, arith}
 use Rattle.std.specs.Prelude.{OnErr, OnOk}
 use Rattle.std.proofs.lemmas.List.Elements.{All-nil, All-cons, All-append}
 use Rattle.form_term.specs.declared.piece.Piece.{Piece}
@@ -26,24 +26,15 @@ returns-in_err-push-clause-unchanged c =
     ∙ bindings_more ps c.args.value.now es c.self.invariant
     ∙ c.self.view_is)
 
-pub returns-in_err-end-clause-unchanged : goal.returns-in_err-end-clause-unchanged
-returns-in_err-end-clause-unchanged c =
-    let ps = c.self.inside.pieces.items in
-    let es = c.self.inside.entries.items in
-    on_err c.from_residual-in_err-end.result _
-    (ap (λ (qs : List Piece). map (binding_in qs) es) c.in_ok-add.ensures.put
-    ∙ bindings_more ps c.args.value.now es c.self.invariant
-    ∙ c.self.view_is)
-
 pub invariant_of-self-2 : goal.invariant_of-self-2
 invariant_of-self-2 c =
     let ps = c.self.inside.pieces.items in
     let es = c.self.inside.entries.items in
     let v = c.args.value.now in
-    let e : Entry = record { wildcard = c.args.wildcard; start = c.in_ok-start.start; end = c.in_ok-end.end } in
-    let begins : c.in_ok-start.start ≡ length ps = search rules in
-    let whole : c.in_ok-end.end ≡ length c.add.new.pieces.items = search rules in
-    let ends : c.in_ok-end.end ≡ length (ps ++ v) = whole ∙ ap length c.in_ok-add.ensures.put in
+    let e : Entry = record { wildcard = c.args.wildcard; start = c.len-start.result; end = c.len-end.result } in
+    let begins : c.len-start.result ≡ length ps = omega (arith, c.len-start.ensures, c.self.inside.pieces.ok.0) in
+    let whole : c.len-end.result ≡ length c.add.new.pieces.items = omega (arith, c.len-end.ensures, c.add.new.pieces.ok.0) in
+    let ends : c.len-end.result ≡ length (ps ++ v) = whole ∙ ap length c.in_ok-add.ensures.put in
     rw (c.in_ok-add.ensures.put, c.in_ok-push.ensures.ok)
     (All-append (IsEntry (ps ++ v)) es (e ∷ []) (entries_more ps v es c.self.invariant)
     (All-cons (IsEntry (ps ++ v)) e [] (entry_last ps v e begins ends c.requires) (All-nil (IsEntry (ps ++ v)))))
@@ -53,10 +44,10 @@ returns-clause-put c =
     let ps = c.self.inside.pieces.items in
     let es = c.self.inside.entries.items in
     let v = c.args.value.now in
-    let e : Entry = record { wildcard = c.args.wildcard; start = c.in_ok-start.start; end = c.in_ok-end.end } in
-    let begins : c.in_ok-start.start ≡ length ps = search rules in
-    let whole : c.in_ok-end.end ≡ length c.add.new.pieces.items = search rules in
-    let ends : c.in_ok-end.end ≡ length (ps ++ v) = whole ∙ ap length c.in_ok-add.ensures.put in
+    let e : Entry = record { wildcard = c.args.wildcard; start = c.len-start.result; end = c.len-end.result } in
+    let begins : c.len-start.result ≡ length ps = omega (arith, c.len-start.ensures, c.self.inside.pieces.ok.0) in
+    let whole : c.len-end.result ≡ length c.add.new.pieces.items = omega (arith, c.len-end.ensures, c.add.new.pieces.ok.0) in
+    let ends : c.len-end.result ≡ length (ps ++ v) = whole ∙ ap length c.in_ok-add.ensures.put in
     ap (λ (qs : List Piece). map (binding_in qs) c.push.new.self.items) c.in_ok-add.ensures.put
     ∙ ap (map (binding_in (ps ++ v))) c.in_ok-push.ensures.ok
     ∙ map_more (binding_in (ps ++ v)) es e

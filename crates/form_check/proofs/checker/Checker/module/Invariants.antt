@@ -1,8 +1,8 @@
 use Rattle.std.proofs.Common.{◌≡◌, All}
 use Rattle.std.specs.Vec.Iter.{into_iter_items}
-use Rattle.form_ast.specs.Lawful.{IsLawfulStatement}
+use Rattle.form_ast.specs.Lawful.{IsLawfulPart}
 use Rattle.form_check.specs.Checker.{state_of, IsConsistent}
-use Rattle.form_check.specs.Checking.{statement}
+use Rattle.form_check.specs.Checking.{part}
 use Rattle.form_right_side.specs.Marks.{current_in}
 use Rattle.form_right_side.specs.Refusal.{each}
 use Rattle.form_check.proofs.checker.Checker.module.Given as goal
@@ -11,7 +11,7 @@ use Rattle.form_check.proofs.checker.Checker.module.Given as goal
 abbrev pub invariant-loop-placed : goal.invariant-loop-placed
 invariant-loop-placed l = record {
   consistent : IsConsistent l.self;
-  lawful : All (λ placed. IsLawfulStatement placed.statement) (into_iter_items l.placed-iterator);
+  lawful : All IsLawfulPart (into_iter_items l.placed-iterator);
   current : current_in l.self.standing ≡ current_in l.fn.self.standing;
-  checked : each statement (state_of l.fn.self) l.fn.written ≡ each statement (state_of l.self) (into_iter_items l.placed-iterator);
+  checked : each part (state_of l.fn.self) l.fn.written ≡ each part (state_of l.self) (into_iter_items l.placed-iterator);
 }

@@ -1,7 +1,6 @@
-use Rattle.std.proofs.Common.{◌≡◌, ◌-◌, refl, arith}
+use Rattle.std.proofs.Common.{refl}
 use Rattle.form_expand.specs.Kept.{listing}
 use Rattle.form_expand.proofs.Powers.{steps_begin}
-use Rattle.form_expand.proofs.Vecs.{take_none}
 use Rattle.form_expand.proofs.power.Power.restart.Goals as goal
 
 pub returns-clause-whole : goal.returns-clause-whole
@@ -10,5 +9,4 @@ returns-clause-whole c = λ max. refl
 pub returns-clause-left : goal.returns-clause-left
 returns-clause-left c = λ max.
     let p = c.args.self.now in
-    let e : p.later - 0 ≡ p.later = omega arith in
-    rw (c.clear.ensures.items, c.in_ok-resize.ensures.items, c.clear-2.ensures.items, c.clear-2.ensures.len, take_none, e) (steps_begin max (listing p.whole) p.later)
+    rw (c.clear.ensures.items, c.in_ok-put_counts.ensures) (steps_begin max (listing p.whole) p.later)

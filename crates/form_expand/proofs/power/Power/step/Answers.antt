@@ -63,6 +63,15 @@ returns-clause-next c =
 pub returns-clause-whole : goal.returns-clause-whole
 returns-clause-whole c = rw (c.open.ensures.whole, c.open.ensures.later, c.in_ok-term.ensures.whole) refl
 
+pub returns-in_default-2-clause-same : goal.returns-in_default-2-clause-same
+returns-in_default-2-clause-same c = ap listing c.close.ensures.whole ∙ c.in_ok-term.ensures.whole
+
+pub returns-in_default-pop-2-clause-same : goal.returns-in_default-pop-2-clause-same
+returns-in_default-pop-2-clause-same c = c.in_ok-term.ensures.whole
+
+pub returns-clause-same : goal.returns-clause-same
+returns-clause-same c = ap listing c.open.ensures.whole ∙ c.in_ok-term.ensures.whole
+
 pub returns-in_default-clause-nearer : goal.returns-in_default-clause-nearer
 returns-in_default-clause-nearer c =
     let p = c.args.self.now in

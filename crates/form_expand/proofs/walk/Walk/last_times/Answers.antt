@@ -1,4 +1,4 @@
-use Rattle.std.proofs.Common.{◌+◌, ◌-◌, arith, ap, ◌∙◌}
+use Rattle.std.proofs.Common.{◌+◌, ◌-◌, arith, refl, ap, ◌∙◌}
 use Rattle.std.specs.Prelude.{Some, None}
 use Rattle.std.proofs.lemmas.Result.{err_from_is_err_and}
 use Rattle.form_expand.specs.Kept.{listing, rest_at, end_of}
@@ -9,14 +9,14 @@ use Rattle.form_expand.proofs.Places.{spent}
 use Rattle.form_expand.proofs.Taking.{at_end, limited_first, limited_end, gives_last, gives_unmade, times_by_end}
 use Rattle.form_expand.proofs.walk.Walk.last_times.Goals as goal
 
-pub returns-in_default : goal.returns-in_default
-returns-in_default c = λ max one.
+pub returns-in_default-clause-gives : goal.returns-in_default-clause-gives
+returns-in_default-clause-gives c = λ max one.
     let w = c.args.self.now in
     let none = limited_end max w.count (end_of w.whole.end) (rest_at w.place (listing w.whole)) c.in_default.ensures.first ∙ ap at_end one.done in
     (ap (times_by (Some c.args.left)) none ∙ times_by_end (Some c.args.left) None, none)
 
-pub returns-in_err-made : goal.returns-in_err-made
-returns-in_err-made c = λ max one.
+pub returns-in_err-made-clause-gives : goal.returns-in_err-made-clause-gives
+returns-in_err-made-clause-gives c = λ max one.
     let w = c.args.self.now in
     let list = listing w.whole in
     let left = Some c.args.left in
@@ -27,8 +27,8 @@ returns-in_err-made c = λ max one.
     (gives_unmade left c.in-Some.term.now here behind (c.in_err-made.field-0.0) here
     (limited_first max w.count c.in-Some.term.now (rest_at w.place list) (rest_at (w.place + 1) list) c.in-Some.ensures.first.0 one.within) c.in_err-made.ensures)
 
-pub returns : goal.returns
-returns c = λ max one.
+pub returns-clause-gives : goal.returns-clause-gives
+returns-clause-gives c = λ max one.
     let w = c.args.self.now in
     let list = listing w.whole in
     let last = spent list (w.place + 1) one.done (omega (arith, one.last)) in
@@ -36,3 +36,12 @@ returns c = λ max one.
     let here = limited (max - w.count) (rest_at w.place list) in
     let first = limited_first max w.count c.in-Some.term.now (rest_at w.place list) (rest_at (w.place + 1) list) c.in-Some.ensures.first.0 one.within ∙ ap (before c.in-Some.term.now) (none (max - (w.count + 1))) in
     gives_last (Some c.args.left) c.in-Some.term.now c.in_ok-made.made here (limited (max - w.count) (rest_at (w.place + 1) list)) first c.in_ok-made.ensures (none (max - w.count))
+
+pub returns-in_default-clause-whole : goal.returns-in_default-clause-whole
+returns-in_default-clause-whole c = λ max. refl
+
+pub returns-in_err-made-clause-whole : goal.returns-in_err-made-clause-whole
+returns-in_err-made-clause-whole c = λ max. refl
+
+pub returns-clause-whole : goal.returns-clause-whole
+returns-clause-whole c = λ max. refl

@@ -1,10 +1,16 @@
-use Rattle.std.proofs.Common.{Some, refl}
-use Rattle.form_flow.specs.Left.{outputs_left}
-use Rattle.form_flow.proofs.Stepping.{starts}
+use Rattle.std.proofs.Common.{◌≡◌, ◌-◌, ap, ◌∙◌, arith}
+use Rattle.form_expand.specs.Listing.{limited}
+use Rattle.form_flow.specs.Left.{left, outputs_left}
+use Rattle.form_flow.specs.Outcome.{listing_of}
+use Rattle.form_flow.specs.Statements.{run}
+use Rattle.form_flow.proofs.Finishing.{listing_marks}
 use Rattle.form_flow.proofs.outputs.Outputs.new.Goals as goal
 
-pub returns-clause-left : goal.returns-clause-left
+pub returns : goal.returns
 unfolding outputs_left
-returns-clause-left c = λ pss.
-    starts c.following_lists.ensures.last c.args.compiled.now.limit
-    (record { given = 0; waiting = Some (record { item = c.args.item; behind = 0 }); frames = c.new.result }) pss c.args.item refl refl c.new.ensures.items
+returns c =
+    let at = c.args.compiled.now.limits in
+    let all : c.limit.result - 0 ≡ at.terms = omega (arith, c.limit.ensures) in
+    ap (λ n. limited n (listing_of (left c.new-descent.result))) all
+    ∙ ap (λ o. limited at.terms (listing_of o)) c.new-descent.ensures.left
+    ∙ ap (limited at.terms) (listing_marks (run at c.args.block.now c.args.item))

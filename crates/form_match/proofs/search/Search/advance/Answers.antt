@@ -1,3 +1,4 @@
+use Rattle.std.proofs.Common.{arith}
 use Rattle.form_match.specs.Attempts.{table_of}
 use Rattle.form_match.specs.Matching.{outer}
 use Rattle.form_match.proofs.Running.{later_back, later_on, later_past, passed_on, put_on, taken_back}
@@ -25,13 +26,13 @@ pub returns-in_ok-put-in-Made-clause-later : goal.returns-in_ok-put-in-Made-clau
 returns-in_ok-put-in-Made-clause-later c =
     later_on (table_of c.args.outermost.now.fixed.now) c.args.piece.now (outer c.args.outermost.now.term.now c.args.outermost.now.cuts.now c.args.outermost.now.is_exact) c.args.self.now.steps.items c.attempt.new.self.steps.items c.args.self.now.bindings c.attempt.new.self.bindings c.args.candidate c.requires.stands
     c.in_ok-attempt.ensures.steps c.in_ok-attempt.attempt c.in_ok-attempt.ensures.made
-    c.in-Made.next c.in-Made.step c.put.new.self.steps.items c.in-Made.is c.in_ok-put-in-Made.ensures.steps
+    c.in-Made.next c.in-Made.step c.put.new.self.steps.items c.in-Made.is (omega arith) c.in_ok-put-in-Made.ensures.steps
 
 pub returns-in-Failed-clause-later : goal.returns-in-Failed-clause-later
 returns-in-Failed-clause-later c =
     later_past (table_of c.args.outermost.now.fixed.now) c.args.piece.now (outer c.args.outermost.now.term.now c.args.outermost.now.cuts.now c.args.outermost.now.is_exact) c.args.self.now.steps.items c.attempt.new.self.steps.items c.args.self.now.bindings c.attempt.new.self.bindings c.args.candidate c.requires.stands
     c.in_ok-attempt.ensures.steps c.in_ok-attempt.attempt c.in_ok-attempt.ensures.made
-    c.in-Failed.next c.in-Failed.is
+    c.in-Failed.next c.in-Failed.is (omega arith)
 
 pub returns-in-Spent-clause-later : goal.returns-in-Spent-clause-later
 returns-in-Spent-clause-later c =

@@ -16,7 +16,7 @@ use Rattle.form_stmts.specs.Instruction.{begins_with_period}
 use Rattle.form_stmts.specs.Line.{PlacedLine}
 use Rattle.form_stmts.specs.Program.{token as lexed_token, token_of}
 use Rattle.form_stmts.specs.Progress.{ReadsOn, Refuses, RefusesLine}
-use Rattle.form_stmts.proofs.Going.{begun_on, ends_statement, goes_on, has_tokens, period_read, period_refused, reads_none, reads_token, refused_among, statement_refused}
+use Rattle.form_stmts.proofs.Going.{begun_on, ends_statement, goes_on, has_tokens, period_read, period_refused, reads_none, reads_token, refused_among}
 use Rattle.form_stmts.proofs.program.Reader.take_line.Invariants.{HasComeTo}
 use Rattle.form_stmts.proofs.program.Reader.take_line.Goals as goal
 
@@ -64,14 +64,14 @@ loop-shape-preserved-then-is_semicolon c =
     let spot = c.spot-spot.result in
     let t : Token = token_of spot c.in-Some.shape c.in-Some.text.now in
     further spot c.text-rest.result.now c.loop-shape.rest.now c.in-Some.others.now c.in-Some.text.now c.args.self.now c.loop-shape.self c.end_statement.new.self c.in-Some.shape c.loop-shape.invariant.1 c.in-Some.ensures
-    (ends_statement c.loop-shape.self c.end_statement.new.self t (sym (c.is_semicolon.ensures c.in-Some.text.now) ∙ c.if-is_semicolon.true) c.in_ok-end_statement.ensures.ended)
+    (ends_statement c.loop-shape.self c.end_statement.new.self t (sym (c.is_semicolon.ensures c.in-Some.text.now) ∙ c.if-is_semicolon.true) c.in_ok-end_statement.ensures)
 
 pub loop-shape-preserved-in-Some-right_side : goal.loop-shape-preserved-in-Some-right_side
 loop-shape-preserved-in-Some-right_side c =
     let s = c.loop-shape.self in
     let spot = c.spot-spot.result in
     let t : Token = token_of spot c.in-Some.shape c.in-Some.text.now in
-    let new : Reader = record { tokens = s.tokens; right_side = Some c.take_shape.new.self; statements = s.statements; modules = s.modules } in
+    let new : Reader = record { tokens = s.tokens; right_side = Some c.take_shape.new.self; current = s.current; modules = s.modules } in
     further spot c.text-rest.result.now c.loop-shape.rest.now c.in-Some.others.now c.in-Some.text.now c.args.self.now s new c.in-Some.shape c.loop-shape.invariant.1 c.in-Some.ensures
     (goes_on s new t (sym (c.is_semicolon.ensures c.in-Some.text.now) ∙ c.if-is_semicolon.false)
     (λ begun h. begun_on s.tokens.items begun t s.right_side c.in-Some-right_side.right_side c.take_shape.new.self c.in-Some-right_side.is c.in_ok-take_shape.ensures h) refl refl)
@@ -82,16 +82,6 @@ loop-shape-preserved c =
 
 pub take_front-requires-clause-token : goal.take_front-requires-clause-token
 take_front-requires-clause-token c = sym (c.is_semicolon.ensures c.in-Some.text.now) ∙ c.if-is_semicolon.false
-
-pub returns-in_err-end_statement-clause-refused : goal.returns-in_err-end_statement-clause-refused
-returns-in_err-end_statement-clause-refused c =
-    let p = err_from_is_err_and c.from_residual.result c.from_residual.ensures.1 in
-    let spot = c.spot-spot.result in
-    let t : Token = token_of spot c.in-Some.shape c.in-Some.text.now in
-    rw (p.1, p.2)
-    (refused_at c.one_list_of_tokens.ensures.some spot c.args.line.now c.text-rest.result.now c.loop-shape.rest.now c.in-Some.others.now c.in-Some.text.now c.args.self.now c.loop-shape.self c.in-Some.shape _
-    (search rules) c.spot-spot.ensures c.text-rest.ensures.value c.loop-shape.invariant.1 c.in-Some.ensures
-    (statement_refused c.loop-shape.self t _ (sym (c.is_semicolon.ensures c.in-Some.text.now) ∙ c.if-is_semicolon.true) c.in_err-end_statement.ensures.refused))
 
 pub returns-in_err-take_front-clause-refused : goal.returns-in_err-take_front-clause-refused
 returns-in_err-take_front-clause-refused c =

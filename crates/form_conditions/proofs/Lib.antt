@@ -1,0 +1,9 @@
+pub mod Complete
+pub mod Fronts
+pub mod Lawfulness
+pub mod Patterns
+pub mod Read
+pub mod Separated
+pub mod Skips
+pub mod Sound
+pub mod Testing
