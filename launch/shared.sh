@@ -43,10 +43,12 @@ choose_place() {
     give_up 126 "there is no place to keep the program: set XDG_CACHE_HOME to a folder that can be written"
 }
 
-# need_kit: ends where the kit isn't there
+# need_kit: sets kit, the kit's folder, and ends where it isn't there
 need_kit() {
     command -v rt >/dev/null 2>&1 ||
         give_up 127 "the program isn't built yet, and the Rattle kit that builds it isn't here: no command 'rt' on PATH"
+    kit=$(readlink -f "$(command -v rt)")
+    kit=${kit%/bin/rt}
 }
 
 # is_newest PROGRAM: it is there, and nothing that it is made from was touched since

@@ -55,10 +55,18 @@ impl Entry {
 
 /// What the wildcards of a match stand for: in a clause the list of their bindings. The value of a wildcard is the pieces
 /// of arguments: of one for a symbol, an index or a vector, of any number for a field. That of a function is its piece.
-#[derive(Drop)]
 pub struct Bindings {
     entries: SmallVec<Entry, 3>,
     pieces: Vec<Piece>,
+}
+
+impl Drop for Bindings {
+    fn drop(self) {
+        let Bindings {
+            entries: _,
+            pieces: _,
+        } = self;
+    }
 }
 
 impl Model for Bindings {

@@ -5,10 +5,18 @@ use form_names::Names;
 use sqlite_items::Items;
 
 /// A checked program: its names, in the order of declaration, and its modules over their Ids, in the order of the text.
-#[derive(Drop)]
 pub struct Program {
     pub names: Names,
     pub modules: Items<Module>,
+}
+
+impl Drop for Program {
+    fn drop(self) {
+        let Program {
+            names: _,
+            modules: _,
+        } = self;
+    }
 }
 
 impl Program {

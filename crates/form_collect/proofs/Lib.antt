@@ -2,10 +2,10 @@ pub mod Collected
 pub mod Digits
 pub mod Lists
 pub mod Members
+pub mod Ordered
 pub mod Places
 pub mod Rising
 pub mod ShortLists
-pub mod Sorted
 pub mod Standing
 pub mod Stands
 pub mod Summands

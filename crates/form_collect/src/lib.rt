@@ -11,4 +11,5 @@ mod terms;
 pub use again::is_collected;
 pub use collector::{CollectError, Collector};
 pub use short::collect_short;
+pub use sorting::sorted;
 pub use terms::Terms;

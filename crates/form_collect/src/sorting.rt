@@ -35,7 +35,7 @@ struct Keyed {
 }
 
 /// These terms in their order.
-pub(crate) fn sorted(alloc: Global, mut terms: Vec<Monomial>) -> Result<Terms, AllocError>
+pub fn sorted(alloc: Global, mut terms: Vec<Monomial>) -> Result<Terms, AllocError>
     ensures { IfOk result (λ list. AreSorted terms.items list) }
 {
     if terms.len() <= SHORT {

@@ -20,9 +20,14 @@ use std::marker::Model;
 const MOST_OUTSIDE: usize = 65_536;
 
 /// The list of a right side, whose terms are made one by one as they are asked for: in a clause what is left of it.
-#[derive(Drop)]
 pub struct Expansion<'a> {
     stream: Stream<'a>,
+}
+
+impl Drop for Expansion<'_> {
+    fn drop(self) {
+        let Expansion { stream: _ } = self;
+    }
 }
 
 impl<'a> Model for Expansion<'a> {

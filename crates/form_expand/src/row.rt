@@ -191,10 +191,15 @@ fn product_of_parts<'a>(
 }
 
 /// Lists that are paired from the left, whose terms are made one by one as they are asked for: in a clause what is left.
-#[derive(Drop)]
 pub struct Row<'a> {
     limit: u64,
     lists: Lists<'a>,
+}
+
+impl Drop for Row<'_> {
+    fn drop(self) {
+        let Row { limit: _, lists: _ } = self;
+    }
 }
 
 impl<'a> Model for Row<'a> {

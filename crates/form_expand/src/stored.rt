@@ -23,12 +23,21 @@ pub struct Stored {
 
 /// What names stand for in a right side: the expressions that stand, by their terms, and wildcards that a match bound.
 /// Expressions are looked up by halves where their Ids rise.
-#[derive(Drop)]
 pub struct Standing {
     items: Vec<Stored>,
     /// Whether no Id is lower than the one before it.
     rises: bool,
     bindings: Option<Bindings>,
+}
+
+impl Drop for Standing {
+    fn drop(self) {
+        let Standing {
+            items: _,
+            rises: _,
+            bindings: _,
+        } = self;
+    }
 }
 
 impl Model for Standing {

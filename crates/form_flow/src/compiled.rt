@@ -146,11 +146,20 @@ struct Statements<'a> {
 }
 
 /// The statements of a module that are carried out on terms, made ready once: in a clause with their limits.
-#[derive(Drop)]
 pub struct CompiledModule<'a> {
     limit: u64,
     turns: u64,
     statements: Statements<'a>,
+}
+
+impl Drop for CompiledModule<'_> {
+    fn drop(self) {
+        let CompiledModule {
+            limit: _,
+            turns: _,
+            statements: _,
+        } = self;
+    }
 }
 
 impl<'a> Model for CompiledModule<'a> {
@@ -331,16 +340,23 @@ impl<'a> CompiledModule<'a> {
     }
 
     /// The most terms of a list.
-    pub(crate) fn limit(&self) -> u64
+    pub fn limit(&self) -> u64
         ensures { result ≡ self.now.limits.terms }
     {
         self.limit
     }
 
     /// The most turns of a `repeat`.
-    pub(crate) fn turns(&self) -> u64
+    pub fn turns(&self) -> u64
         ensures { result ≡ self.now.limits.turns }
     {
         self.turns
+    }
+
+    /// The statements.
+    pub fn block(&self) -> &ReadyBlock<'a>
+        ensures { result.now ≡ self.now.statements }
+    {
+        &self.statements.block
     }
 }

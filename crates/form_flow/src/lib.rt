@@ -26,5 +26,9 @@ mod within;
 mod words;
 
 pub use carry::{Emit, End, Go};
-pub use compiled::CompiledModule;
+pub use compiled::{
+    CompiledModule, CompiledPart, Group, Question, ReadyAction, ReadyBlock, ReadyBranch, ReadyLeaf,
+    ReadySide,
+};
 pub use outputs::Outputs;
+pub use words::{with_front, word_of};

@@ -14,13 +14,22 @@ use form_term::Monomial;
 use std::alloc::Global;
 
 /// What a term becomes, one by one: in a clause `outputs_left` says what is left.
-#[derive(Drop)]
 pub struct Outputs<'m, 'a> {
     descent: Descent<'m, 'a>,
     /// How many there may be.
     limit: u64,
     /// How many there were.
     given: u64,
+}
+
+impl Drop for Outputs<'_, '_> {
+    fn drop(self) {
+        let Outputs {
+            descent: _,
+            limit: _,
+            given: _,
+        } = self;
+    }
 }
 
 impl<'m, 'a> Outputs<'m, 'a> {

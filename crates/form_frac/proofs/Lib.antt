@@ -1,3 +1,11 @@
+pub mod Added
 pub mod Divisors
 pub mod Fractions
+pub mod Integers
+pub mod Joined
+pub mod Paired
+pub mod Ranges
+pub mod Reduced
+pub mod Sums
 pub mod Values
+pub mod Within

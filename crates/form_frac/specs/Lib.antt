@@ -1,1 +1,2 @@
 pub mod Fraction
+pub mod Weight

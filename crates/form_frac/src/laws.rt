@@ -1,7 +1,10 @@
 //! Laws of the definitions, each the contract of a function that does nothing.
-ghost use Rattle.std.specs.Prelude.{◌≡◌, ◌≤◌, ◌*◌, ℕ, ℤ, pos, ◌+ℤ◌, ◌*ℤ◌, nat_abs, Some, Ok};
+ghost use Rattle.std.specs.Prelude.{◌≡◌, ◌≤◌, ◌*◌, ℕ, ℤ, pos, ◌+ℤ◌, ◌*ℤ◌, nat_abs, List, [], ◌∷◌, ◌++◌, map, Some, Ok};
 ghost use Rattle.std.specs.Int.{◌∣◌};
-ghost use Rattle.form_frac.specs.Fraction.{Fraction, IsLowest, HasValue, gcd, lcm, reduced, make, add, multiply};
+ghost use Rattle.std.specs.List.{AllByRecursion};
+ghost use Rattle.std.specs.List.Sorted.{IsPermutation};
+ghost use Rattle.form_frac.specs.Fraction.{Fraction, IsLowest, HasValue, gcd, lcm, reduced, make, add, multiply, negate, whole};
+ghost use Rattle.form_frac.specs.Weight.{Weight, IsWeight, IsSum, of, join, times, sum_over, product, products, added_up};
 
 /// To bring a fraction to lowest terms keeps its value, and leaves no common divisor.
 pub fn lowest_terms()
@@ -23,4 +26,29 @@ pub fn values()
         HasValue s (f.numerator *ℤ pos g.denominator +ℤ g.numerator *ℤ pos f.denominator) (pos (f.denominator * g.denominator)) }
     ensures product { (f g p : Fraction) → multiply f g ≡ Some p →
         HasValue p (f.numerator *ℤ g.numerator) (pos (f.denominator * g.denominator)) }
+{}
+
+/// Within their weight fractions add up to their sum in whatever order and however they are put together, and so do
+/// their products.
+pub fn weights()
+    ensures one { (f : Fraction) → IsLowest f → IsSum (of f) f (f ∷ []) × IsWeight (of f) }
+    ensures fold { (w : Weight) (x f : Fraction) (fs : List Fraction) → IsWeight w → IsSum w x (f ∷ fs) → added_up f fs ≡ Some x }
+    ensures over { (w : Weight) (x : Fraction) (fs : List Fraction) (k : ℕ) → IsSum w x fs → w.denominator ∣ k → 1 ≤ k → sum_over k fs ≡ x }
+    ensures moved { (w : Weight) (x : Fraction) (fs gs : List Fraction) → IsPermutation fs gs → IsSum w x fs → IsSum w x gs }
+    ensures joined { (a b c : Weight) (x y : Fraction) (fs gs : List Fraction) → IsWeight a → IsWeight b → join a b ≡ Some c →
+        IsSum a x fs → IsSum b y gs → IsWeight c × (add x y ≡ Some (sum_over c.denominator (fs ++ gs))) × IsSum c (sum_over c.denominator (fs ++ gs)) (fs ++ gs) }
+    ensures paired { (a b c : Weight) (x y : Fraction) (fs gs : List Fraction) → IsWeight a → IsWeight b → times a b ≡ Some c →
+        IsSum a x fs → IsSum b y gs → IsWeight c × (multiply x y ≡ Some (product x y)) × IsSum c (product x y) (products fs gs) }
+    ensures each { (a b c : Weight) (x y : Fraction) (fs gs : List Fraction) → IsWeight a → IsWeight b → times a b ≡ Some c →
+        IsSum a x fs → IsSum b y gs → AllByRecursion (λ f. AllByRecursion (λ g. multiply f g ≡ Some (product f g)) gs) fs }
+    ensures negated { (w : Weight) (x : Fraction) (fs : List Fraction) → IsSum w x fs → IsSum w (negate x) (map negate fs) }
+{}
+
+/// Products of fractions, whatever their parts.
+pub fn products()
+    ensures associative { (f g h : Fraction) → product f (product g h) ≡ product (product f g) h }
+    ensures commutative { (f g : Fraction) → product f g ≡ product g f }
+    ensures negated { (f g : Fraction) → product f (negate g) ≡ negate (product f g) }
+    ensures one { (f : Fraction) → IsLowest f → product (whole (pos 1)) f ≡ f }
+    ensures made { (f g p : Fraction) → multiply f g ≡ Some p → p ≡ product f g }
 {}

@@ -1,5 +1,5 @@
 //! Sums and products that stay in range.
-ghost use Rattle.std.specs.Prelude.{◌≡◌, ◌≤◌, ◌*◌, pos, neg_ℤ, ◌+ℤ◌, ◌*ℤ◌, nat_le, if◌then◌else◌};
+ghost use Rattle.std.specs.Prelude.{◌≡◌, ◌≤◌, ◌+◌, ◌*◌, pos, neg_ℤ, ◌+ℤ◌, ◌*ℤ◌, nat_le, if◌then◌else◌};
 ghost use Rattle.form_frac.specs.Fraction.{largest, is_in_range, signed as signed_of};
 
 /// The size that no part of a fraction may pass.
@@ -50,4 +50,11 @@ pub fn product_size(a: u128, b: u128) -> Option<u128>
     } else {
         Some(product)
     }
+}
+
+pub fn sum_size(a: u128, b: u128) -> Option<u128>
+    ensures { result ≡ (if nat_le (a + b) largest then Some (a + b) else None) }
+{
+    let sum = a.checked_add(b)?;
+    if sum > LARGEST { None } else { Some(sum) }
 }

@@ -11,12 +11,21 @@ use std::marker::Model;
 
 /// A pattern made ready for a module, with what its arguments without wildcards are, each as a function's arguments, by
 /// their numbers: none where an argument is refused, and then nothing equals it.
-#[derive(Drop)]
 pub struct Pattern<'a> {
     pieces: &'a [PatternPiece],
     fixed: Vec<Option<Call>>,
     /// Whether it is tried straight on.
     is_straight: bool,
+}
+
+impl Drop for Pattern<'_> {
+    fn drop(self) {
+        let Pattern {
+            pieces: _,
+            fixed: _,
+            is_straight: _,
+        } = self;
+    }
 }
 
 impl<'a> Model for Pattern<'a> {

@@ -31,8 +31,9 @@ use Rattle.form_module.specs.Works.{works_of}
 use Rattle.form_module.specs.declared.carry_error.CarryError.{CarryError}
 use Rattle.form_module.specs.declared.result_error.ResultError.{ResultError}
 use Rattle.form_module.specs.declared.result_error.ResultError.TheVariants.{Refused, Memory}
-use Rattle.form_module.proofs.Collected.{all_of, as_they_are}
-use Rattle.form_module.proofs.Fitting.{Builds, IsFit, IsFitBy, inputs_built, works_fit}
+use Rattle.form_module.proofs.Collected.{as_they_are}
+use Rattle.form_module.proofs.Taken.{all_of}
+use Rattle.form_module.proofs.Fitting.{Builds, IsFit, IsFitBy, inputs_told, works_fit}
 use Rattle.form_module.proofs.LeftOut.{IsOut, Made, all_or_shown, ids_more, ids_of, leaving_out, none_more, out_more, showing, shown, shown_more, stays_there, stored_more, stored_of}
 
 -- results that are made already, before the others
@@ -102,12 +103,11 @@ module _ (settings : Settings) (statements : List Checked) (ready : Compiled) (n
       pub first_fits : IsFitBy statements names.stored id (right_side_by statements place)
       first_fits = fit_here.0
 
-      -- what is meant by it, by what is left of its inputs
-      pub meant_by : (left : Listing) (what : Result (List Monomial) Cause → Type 0) →
-          ((tree : Option Sum) → IsTreeOf (right_side_by statements place) tree → left ≡ inputs_of settings.max_expand names id tree) → what (result_of settings.max_terms ready left) → what (Meant id place)
-      meant_by left what reads gives =
-          subst (λ (l : Listing). what (result_of settings.max_terms ready l))
-          (inputs_built left settings.max_expand names statements names.stored id (right_side_by statements place) first_fits reads) gives
+      -- what is told of what is meant by it, by each tree of its right side
+      pub meant_by : (what : Result (List Monomial) Cause → Type 0) →
+          ((tree : Option Sum) → IsTreeOf (right_side_by statements place) tree → what (result_of settings.max_terms ready (inputs_of settings.max_expand names id tree))) → what (Meant id place)
+      meant_by what tells =
+          inputs_told (λ (l : Listing). what (result_of settings.max_terms ready l)) settings.max_expand names statements names.stored id (right_side_by statements place) first_fits tells
 
       -- one result more
       with_made : (m : Made) (terms : List Monomial) (now : List Stored) → Meant id place ≡ Ok terms → m.stored ≡ record { expression = id; terms = terms } → IsOut Staying m → now ≡ shown (c.so_far ++ m ∷ []) → IsCarriedTo entries now later

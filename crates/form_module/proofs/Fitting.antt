@@ -98,8 +98,8 @@ pub works_fit : Builds → (s : List Checked) (all : List Stored) → All HasRig
 works_fit builds s all have =
     all_defined s all builds s (fold (and_standing s) [] all) (recursion_from_All HasRightSide s have) (all_stored s all all [] (all_among all) tt)
 
--- what is left of inputs, where the right side is one of the grammar
-pub inputs_built : (left : Listing) (max : ℕ) (names : Meanings) (s : List Checked) (all : List Stored) (expression : ℕ) (right : Option (List Piece)) → IsFitBy s all expression right →
-    ((tree : Option Sum) → IsTreeOf right tree → left ≡ inputs_of max names expression tree) → left ≡ inputs_by max names expression right
-inputs_built left max names s all expression (Some right) fit reads = reads (Some (sum_of right)) fit
-inputs_built left max names s all expression None fit reads = reads None tt
+-- what is told of inputs by each tree, where the right side is one of the grammar
+pub inputs_told : (what : Listing → Type 0) (max : ℕ) (names : Meanings) (s : List Checked) (all : List Stored) (expression : ℕ) (right : Option (List Piece)) → IsFitBy s all expression right →
+    ((tree : Option Sum) → IsTreeOf right tree → what (inputs_of max names expression tree)) → what (inputs_by max names expression right)
+inputs_told what max names s all expression (Some right) fit tells = tells (Some (sum_of right)) fit
+inputs_told what max names s all expression None fit tells = tells None tt

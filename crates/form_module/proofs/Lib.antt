@@ -11,3 +11,5 @@ pub mod Reported
 pub mod Settling
 pub mod Sound
 pub mod Stays
+pub mod Summed
+pub mod Taken

@@ -45,11 +45,20 @@ abbrev pub Gives : {X Y : Type 0} → (X → Y) → Result X ResultError → Res
 Gives view (Ok x) meant = meant ≡ Ok (view x)
 Gives view (Err e) meant = IsRefused e meant
 
+-- A list that isn't refused was added to what stands for lists: whatever it stood for, now it stands for that with this one
+-- behind it.
+abbrev pub Adds : {S : Type 0} → (S → List Monomial → Type 0) → Listing → S → S → Type 0
+Adds StandsFor l old new = (l.end ≡ None) × ((list : List Monomial) → StandsFor old list → StandsFor new (list ++ l.terms))
+
+-- what an error says of a list; nothing where memory ran out
+abbrev pub IsEndedBy : ResultError → Listing → Type 0
+IsEndedBy (Refused cause) l = l.end ≡ Some cause
+IsEndedBy Memory l = Unit {0}
+
 -- A list was added to a collector, or a refusal ends it; nothing is said where memory ran out.
 abbrev pub IsAdded : Listing → Collector → Collector → Result Unit ResultError → Type 0
-IsAdded l old new (Ok u) = (l.end ≡ None) × ((list : List Monomial) → IsCollectionOf old list → IsCollectionOf new (list ++ l.terms))
-IsAdded l old new (Err (Refused cause)) = l.end ≡ Some cause
-IsAdded l old new (Err Memory) = Unit {0}
+IsAdded l old new (Ok u) = Adds IsCollectionOf l old new
+IsAdded l old new (Err e) = IsEndedBy e l
 
 -- What is carried out was carried out: put among what stays, these results give what stands after the module; or it is
 -- refused, unless memory ran out.

@@ -1,15 +1,11 @@
 -- Inputs that were read at once.
-use Rattle.std.specs.Prelude.{◌≡◌, ◌<◌, ◌≤◌, ◌++◌, ℕ, List, length, Err}
+use Rattle.std.specs.Prelude.{◌≡◌, ◌<◌, ◌++◌, List, length, Err}
 use Rattle.form_term.specs.declared.monomial.Monomial.{Monomial}
 use Rattle.form_expand.specs.Listing.{Listing, nothing}
 use Rattle.form_expand.specs.Next.{Gives}
 use Rattle.form_module.specs.declared.inputs.Batch.{Batch}
 use Rattle.form_module.specs.declared.inputs.BatchEnd.{BatchEnd}
 use Rattle.form_module.specs.declared.inputs.BatchEnd.TheVariants.{More, Done, Failed}
-
--- how many inputs may be read at once
-abbrev pub most_at_once : ℕ
-most_at_once = 32
 
 -- a list behind terms
 abbrev pub behind : List Monomial → Listing → Listing
@@ -32,4 +28,3 @@ pub record IsBatch (b : Batch) (old new : Listing) : Type 0 where
   pub whole : old ≡ behind b.items.items left
   pub ends : Ends b.end left new
   pub some : HasSome b.end b.items.items
-  pub few : length b.items.items ≤ most_at_once

@@ -9,4 +9,5 @@ pub mod Printed
 pub mod Reporting
 pub mod Sets
 pub mod Settled
+pub mod Summed
 pub mod Works

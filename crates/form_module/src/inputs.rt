@@ -1,5 +1,5 @@
 //! What the statements of a module are carried out on, term by term.
-ghost use Rattle.std.specs.Prelude.{IfOk};
+ghost use Rattle.std.specs.Prelude.{◌<◌, ◌≤◌, length, IfOk};
 ghost use Rattle.form_expand.specs.Next.{Gives as GivesNext};
 ghost use Rattle.form_module.specs.Batches.{IsBatch};
 ghost use Rattle.form_module.specs.Inputs.{inputs_left, terms_left};
@@ -51,9 +51,6 @@ impl Kept<'_> {
     }
 }
 
-/// How many inputs are read at once.
-const MOST_AT_ONCE: usize = 32;
-
 /// Inputs that were read at once.
 #[derive(Drop)]
 pub struct Batch {
@@ -70,12 +67,14 @@ pub enum BatchEnd {
     Failed(ExpandError),
 }
 
-/// The next inputs.
-pub fn next_batch(alloc: Global, inputs: &mut Inputs) -> Result<Batch, AllocError>
-    ensures { IfOk result (λ batch. IsBatch batch (inputs_left inputs.old) (inputs_left inputs.new)) }
+/// The next inputs, so many at most.
+pub fn next_batch(alloc: Global, inputs: &mut Inputs, most: usize) -> Result<Batch, AllocError>
+    requires { 0 < most }
+    ensures batch { IfOk result (λ batch. IsBatch batch (inputs_left inputs.old) (inputs_left inputs.new)) }
+    ensures few { IfOk result (λ batch. length batch.items.items ≤ most) }
 {
-    let mut items = Vec::with_capacity(alloc, MOST_AT_ONCE)?;
-    for _made in 0..MOST_AT_ONCE {
+    let mut items = Vec::with_capacity(alloc, most)?;
+    for _made in 0..most {
         match inputs.next(alloc) {
             Ok(Some(item)) => items.push(item)?,
             Ok(None) => {

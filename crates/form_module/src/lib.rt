@@ -6,6 +6,7 @@ mod carry_error;
 mod error;
 mod expression_set;
 mod inputs;
+mod joined;
 pub mod laws;
 mod module;
 mod report;

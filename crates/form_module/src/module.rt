@@ -1,16 +1,20 @@
-ghost use Rattle.std.specs.Prelude.{◌≡◌, Ok, Err, All, IfOk, OnOk, ℕ, map, filter, fold};
+ghost use Rattle.std.specs.Prelude.{◌≡◌, Ok, Err, All, IfOk, OnOk, ℕ, Option, map, filter, fold};
 ghost use Rattle.std.specs.Bool.{OnTrue};
 ghost use Rattle.form_base.specs.declared.cause.Cause.{Cause};
-ghost use Rattle.form_module.specs.Answers.{AreCarriedOut};
+ghost use Rattle.form_module.specs.Answers.{AreCarriedOut, Gives};
+ghost use Rattle.form_module.specs.Inputs.{IsTreeOf, inputs_of};
 ghost use Rattle.form_module.specs.Kept.{as_stored, is_kept};
-ghost use Rattle.form_module.specs.Module.{HasRightSide, HaveTrees, module_outcome, standing_after, with_expression};
-ghost use Rattle.form_module.specs.Places.{work_at};
+ghost use Rattle.form_module.specs.Module.{HasRightSide, HaveTrees, module_outcome, result_of as result_meant, standing_after, with_expression};
+ghost use Rattle.form_module.specs.Places.{right_side_by, work_at};
 ghost use Rattle.form_module.specs.Settled.{AreAtRest};
 ghost use Rattle.form_module.specs.Works.{works_of};
+ghost use Rattle.form_tree.specs.Tree.{Sum};
 
 use crate::carry_error::CarryError;
 use crate::expression_set::{ExpressionSet, changed};
+use crate::joined::joined_result;
 use crate::result::result_of;
+use crate::result_error::ResultError;
 use crate::settled::{are_at_rest, comes_out_alike};
 use crate::works::{inputs, works};
 use form_base::{Id, Settings};
@@ -18,6 +22,7 @@ use form_check::{Checked, Module};
 use form_collect::Terms;
 use form_expand::{Standing, Stored};
 use form_flow::CompiledModule;
+use form_levels::gathers;
 use form_tree::laws::trees_are_built;
 use std::alloc::{AllocError, Global};
 use std::collections::BTreeMap;
@@ -69,27 +74,46 @@ fn carry_out(
 {
     trees_are_built();
     let most = settings.max_terms;
+    let may_join = gathers(compiled);
     let mut results = Vec::new(alloc);
     for (expression, place) in works {
         if comes_out_alike(is_at_rest, most, standing, expression, place) {
             continue;
         }
-        let mut inputs = inputs(
-            alloc,
-            settings.max_expand,
-            statements,
-            standing,
-            expression,
-            place,
-        );
-        let result = result_of(alloc, settings, compiled, &mut inputs);
-        drop(inputs);
-        match result {
+        match carried(
+            alloc, settings, statements, compiled, may_join, standing, expression, place,
+        ) {
             Ok(terms) => results.push(Stored { expression, terms })?,
             Err(error) => return Err(error.at(expression)),
         }
     }
     Ok(results)
+}
+
+/// The result of an expression: with equal terms joined on the way, where that comes to one, and else as it is defined.
+fn carried(
+    alloc: Global,
+    settings: &Settings,
+    statements: &[Checked],
+    compiled: &CompiledModule,
+    may_join: bool,
+    standing: &Standing,
+    expression: Id,
+    place: Option<usize>,
+) -> Result<Terms, ResultError>
+    requires { compiled.now.limits.terms ≡ settings.now.max_expand }
+    ensures { (tree : Option Sum) → IsTreeOf (right_side_by statements.now place) tree →
+        Gives (λ terms. terms) result (result_meant settings.now.max_terms compiled.now (inputs_of settings.now.max_expand standing.now expression tree)) }
+{
+    let max_expand = settings.max_expand;
+    if may_join {
+        let mut first = inputs(alloc, max_expand, statements, standing, expression, place);
+        if let Some(terms) = joined_result(alloc, settings, compiled, &mut first)? {
+            return Ok(terms);
+        }
+    }
+    let mut anew = inputs(alloc, max_expand, statements, standing, expression, place);
+    result_of(alloc, settings, compiled, &mut anew)
 }
 
 /// What stands after a module: the results among the expressions that aren't changed.

@@ -16,6 +16,9 @@ use form_flow::{CompiledModule, Outputs};
 use form_term::Monomial;
 use std::alloc::Global;
 
+/// How many inputs are read at once.
+const MOST_AT_ONCE: usize = 32;
+
 /// What the statements make of inputs, collected.
 pub fn result_of(
     alloc: Global,
@@ -43,10 +46,26 @@ fn collect(
     requires { statements.now.limits.terms ≡ limit }
     ensures { Gives (λ terms. terms) result (collected_list (through (outputs_of statements.now) (inputs_left inputs.old))) }
 {
+    let mut collector = Collector::new(alloc);
+    add_inputs(alloc, limit, statements, inputs, &mut collector)?;
+    Ok(collector.into_terms()?)
+}
+
+/// Adds what the statements make of inputs.
+fn add_inputs(
+    alloc: Global,
+    limit: u64,
+    statements: &CompiledModule,
+    inputs: &mut Inputs,
+    collector: &mut Collector,
+) -> Result<(), ResultError>
+    requires { statements.now.limits.terms ≡ limit }
+    ensures { IsAdded (through (outputs_of statements.now) (inputs_left inputs.old)) collector.old collector.new result }
+{
     if pass_all(statements, limit) {
-        return collect_inputs(alloc, inputs);
+        return add_unchanged(alloc, inputs, collector);
     }
-    collect_outputs(alloc, statements, inputs)
+    add_batches(alloc, statements, inputs, collector)
 }
 
 /// Whether the statements surely leave each term as it is: there are none, and a term may have an output.
@@ -60,33 +79,36 @@ pub fn pass_all(statements: &CompiledModule, limit: u64) -> bool
     statements.is_empty()
 }
 
-/// What inputs come to as they are.
-fn collect_inputs(alloc: Global, inputs: &mut Inputs) -> Result<Terms, ResultError>
-    ensures { Gives (λ terms. terms) result (collected_list (inputs_left inputs.old)) }
+/// Adds inputs as they are.
+fn add_unchanged(
+    alloc: Global,
+    inputs: &mut Inputs,
+    collector: &mut Collector,
+) -> Result<(), ResultError>
+    ensures { IsAdded (inputs_left inputs.old) collector.old collector.new result }
 {
-    let mut collector = Collector::new(alloc);
     while let Some(item) = inputs.next(alloc)? {
         collector.add(item)?;
     }
-    Ok(collector.into_terms()?)
+    Ok(())
 }
 
-/// What the statements make of inputs comes to. Inputs are read many at a time, so that what reads them and what carries
-/// them out each stay in the processor's cache for a while.
-fn collect_outputs(
+/// Adds what the statements make of inputs. They are read many at a time, so that what reads them and what carries them out
+/// each stay in the processor's cache for a while.
+fn add_batches(
     alloc: Global,
     statements: &CompiledModule,
     inputs: &mut Inputs,
-) -> Result<Terms, ResultError>
-    ensures { Gives (λ terms. terms) result (collected_list (through (outputs_of statements.now) (inputs_left inputs.old))) }
+    collector: &mut Collector,
+) -> Result<(), ResultError>
+    ensures { IsAdded (through (outputs_of statements.now) (inputs_left inputs.old)) collector.old collector.new result }
 {
-    let mut collector = Collector::new(alloc);
     'batches: loop {
-        let Batch { items, end } = next_batch(alloc, inputs)?;
-        add_each(alloc, statements, items, &mut collector)?;
+        let Batch { items, end } = next_batch(alloc, inputs, MOST_AT_ONCE)?;
+        add_each(alloc, statements, items, collector)?;
         match end {
             BatchEnd::More => {}
-            BatchEnd::Done => return Ok(collector.into_terms()?),
+            BatchEnd::Done => return Ok(()),
             BatchEnd::Failed(error) => return Err(ResultError::from(error)),
         }
     }

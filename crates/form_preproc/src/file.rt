@@ -25,10 +25,15 @@ const LONGEST_TEXT: u64 = 16_777_216;
 
 /// The lines that are handed on, and the names of the texts that their places count: that of the file, and then in the
 /// order in which texts were taken up.
-#[derive(Drop)]
 pub struct Expanded {
     pub lines: Row<Handed>,
     pub names: Row<Name>,
+}
+
+impl Drop for Expanded {
+    fn drop(self) {
+        let Expanded { lines: _, names: _ } = self;
+    }
 }
 
 /// Why a file has no lines.

@@ -1,4 +1,5 @@
-//! Tests of the calls on terms: fractions, coefficients inside arguments, terms, products, conditions, and lists of right sides.
+//! Tests of the calls on terms: fractions and their weights, coefficients inside arguments, terms, products, conditions, terms that
+//! meet, and lists of right sides.
 #![tactic(auto)]
 
 #[cfg(test)]
@@ -8,8 +9,12 @@ mod conditions;
 #[cfg(test)]
 mod fractions;
 #[cfg(test)]
+mod joined;
+#[cfg(test)]
 mod lists;
 #[cfg(test)]
 mod products;
 #[cfg(test)]
 mod terms;
+#[cfg(test)]
+mod weights;

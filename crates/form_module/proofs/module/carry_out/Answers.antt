@@ -1,11 +1,10 @@
 use Rattle.std.proofs.Common.{◌≡◌, Ok}
 use Rattle.form_module.specs.Answers.{IsRefused}
-use Rattle.form_module.specs.Inputs.{inputs_left}
 use Rattle.form_module.proofs.Carried.{begin, done, left_out, meant_by, more, refused}
 use Rattle.form_module.proofs.module.carry_out.Goals as goal
 
-pub result_of-result-requires : goal.result_of-result-requires
-result_of-result-requires c = c.requires.limit
+pub carried-requires : goal.carried-requires
+carried-requires c = c.requires.limit
 
 pub loop-expression-init : goal.loop-expression-init
 loop-expression-init c =
@@ -22,7 +21,7 @@ loop-expression-preserved c =
     more c.args.settings.now c.args.statements.now c.args.compiled.now c.args.standing.now c.args.works.entries c.loop-expression.results.items _ c.loop-expression.invariant
     c.in-Some.expression c.in-Some.place _ c.in-Some.ensures.steps c.in-Ok.terms _
     (meant_by c.args.settings.now c.args.statements.now c.args.compiled.now c.args.standing.now c.args.works.entries c.loop-expression.results.items _ c.loop-expression.invariant
-    c.in-Some.expression c.in-Some.place _ c.in-Some.ensures.steps (inputs_left c.inputs-inputs.result) (λ r. r ≡ Ok c.in-Ok.terms) c.inputs-inputs.ensures c.in-Ok.ensures)
+    c.in-Some.expression c.in-Some.place _ c.in-Some.ensures.steps (λ r. r ≡ Ok c.in-Ok.terms) c.in-Ok.ensures)
     c.in_ok-push-in-Ok.ensures.items
 
 pub returns-in-Err : goal.returns-in-Err
@@ -30,7 +29,7 @@ returns-in-Err c =
     refused c.args.settings.now c.args.statements.now c.args.compiled.now c.args.standing.now c.args.works.entries c.loop-expression.results.items _ c.loop-expression.invariant
     c.in-Some.expression c.in-Some.place _ c.in-Some.ensures.steps c.in-Err.error c.at.result c.at.ensures
     (meant_by c.args.settings.now c.args.statements.now c.args.compiled.now c.args.standing.now c.args.works.entries c.loop-expression.results.items _ c.loop-expression.invariant
-    c.in-Some.expression c.in-Some.place _ c.in-Some.ensures.steps (inputs_left c.inputs-inputs.result) (IsRefused c.in-Err.error) c.inputs-inputs.ensures c.in-Err.ensures)
+    c.in-Some.expression c.in-Some.place _ c.in-Some.ensures.steps (IsRefused c.in-Err.error) c.in-Err.ensures)
 
 pub returns : goal.returns
 returns c =

@@ -2,7 +2,7 @@
 use Rattle.std.proofs.Common.{[], sym, ◌∙◌, append-nil}
 use Rattle.std.specs.List.Sorted.{IsPermutation}
 use Rattle.form_collect.proofs.Stands.{totals_from, overflow_from}
-use Rattle.form_collect.proofs.Sorted.{monomials_of, monomials_less, monomials_more, monomials_made, collected_from_sorted}
+use Rattle.form_collect.proofs.Ordered.{monomials_of, monomials_less, monomials_more, monomials_made, collected_from_sorted}
 use Rattle.form_collect.proofs.collector.Collector.into_terms.Goals as goal
 
 pub returns-then-self-clause-overflow : goal.returns-then-self-clause-overflow

@@ -1,5 +1,5 @@
 use Rattle.std.proofs.Common.{◌≡◌, ◌++◌}
-use Rattle.form_collect.proofs.Sorted.{monomials_of}
+use Rattle.form_collect.proofs.Ordered.{monomials_of}
 use Rattle.form_collect.proofs.collector.Collector.into_terms.Given as goal
 
 -- what is made so far and what is left make up the monomials of the entries

@@ -1,0 +1,10 @@
+pub mod Added
+pub mod Begun
+pub mod Crossed
+pub mod Lengths
+pub mod Lists
+pub mod Mapped
+pub mod Members
+pub mod Paired
+pub mod Singles
+pub mod Weighed

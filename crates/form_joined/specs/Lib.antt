@@ -1,0 +1,3 @@
+pub mod Adding
+pub mod Goes
+pub mod Products

@@ -1,0 +1,7 @@
+//! Products of terms that stand for several: where what they stand for is multiplied, and nothing of it is refused.
+#![tactic(auto)]
+
+pub mod laws;
+mod products;
+
+pub use products::{joined_singles, times_joined, times_list};

@@ -1,0 +1,72 @@
+-- Statements on joined terms: by their kinds, and one after the other.
+use Rattle.std.proofs.Common.{◌≡◌, Bool, List, [], ◌∷◌, ◌++◌, map, Option, option_map, refl, sym, ap, ◌∙◌}
+use Rattle.form_base.specs.declared.block.Action.TheVariants as acting
+use Rattle.form_term.specs.declared.monomial.Monomial.{Monomial}
+use Rattle.form_gathered.specs.Joined.{Stand}
+use Rattle.form_gathered.specs.declared.joined.JoinedTerm.{JoinedTerm}
+use Rattle.form_flow.specs.declared.compiled.ReadyLeaf.{ReadyLeaf}
+use Rattle.form_flow.specs.Outcome.{Output, output, Ended, Outcome, single, unchanged, then_at, and_then, each, onward, through, turns}
+use Rattle.form_flow.specs.Statement.{Chosen, Limits, Statement}
+use Rattle.form_flow.specs.Statements.{action, branch_by, first_branch, leaf, run}
+use Rattle.form_flow.specs.Ways.{run_each}
+use Rattle.form_flow.proofs.Acting.{of_plain, of_repeat, of_choose}
+use Rattle.form_flow.proofs.Binding.{outcome, or_false, or_nothing}
+use Rattle.form_flow.proofs.Finishing.{bind_alike}
+use Rattle.form_flow.proofs.Turning.{rows}
+use Rattle.form_levels.specs.Runs.{Runs, Comes}
+use Rattle.form_levels.proofs.Coming.{comes_same, comes_through, comes_unchanged}
+use Rattle.form_levels.proofs.Running.{runs_same, runs_to, runs_through, runs_unchanged}
+use Rattle.form_levels.proofs.Standing.{stand_itself}
+
+-- ---- one statement alone
+
+each_alone : (os : List Output) (e : Ended) → each single os e ≡ outcome os e
+unfolding each then_at
+each_alone [] e = refl
+each_alone (o ∷ os) e = ap (and_then (single o)) (each_alone os e) ∙ ap (outcome (o ∷ os)) (or_nothing e)
+
+one_alone : (act : Monomial → Outcome) (m : Monomial) → run_each (act ∷ []) m ≡ act m
+unfolding run_each
+one_alone act m =
+    bind_alike (onward (run_each [])) single (λ o. ap (λ (b : Bool). single (output b o.item)) (or_false o.acted)) (act m)
+    ∙ each_alone (act m).outputs (act m).end
+
+module _ (at : Limits) where
+  -- ---- one after the other
+
+  pub no_statements : (js : List JoinedTerm) → Runs (run at []) js js []
+  unfolding run_each
+  no_statements js = runs_same unchanged (run at []) js js [] (λ m. refl) (runs_unchanged js)
+
+  -- One statement more is carried out on what came of those before it, apart on the terms on whose way something acted and on
+  -- the others; what comes of the first is marked whatever it did.
+  pub statement_done : (front : List Statement) (s : Statement) (js i a i2 a2 x y marked : List JoinedTerm)
+      → Runs (run at front) js i a → Runs (action at s) i i2 a2 → Runs (action at s) a x y → Stand (a2 ++ (x ++ y)) marked → Runs (run at (front ++ s ∷ [])) js i2 marked
+  statement_done front s js i a i2 a2 x y marked r idles acted h =
+      let one : (ks l k : List JoinedTerm) → Runs (action at s) ks l k → Runs (run at (s ∷ [])) ks l k = λ ks l k. runs_same (action at s) (run at (s ∷ [])) ks l k (λ m. sym (one_alone (action at s) m)) in
+      runs_to (run at (front ++ s ∷ [])) js i2 (a2 ++ (x ++ y)) i2 marked (stand_itself i2) h
+      (runs_same (λ m. through (run at (s ∷ [])) (run at front m)) (run at (front ++ s ∷ [])) js i2 (a2 ++ (x ++ y)) (λ m. sym (rows at front (s ∷ []) m))
+      (runs_through (run at front) (run at (s ∷ [])) js i a i2 a2 x y r (one i i2 a2 idles) (one a x y acted)))
+
+  -- where it isn't asked on whose way something acted
+  pub nothing_comes : (js : List JoinedTerm) → Comes (run at []) js js
+  unfolding run_each
+  nothing_comes js = comes_same unchanged (run at []) js js (λ m. refl) (comes_unchanged js)
+
+  pub statement_comes : (front : List Statement) (s : Statement) (js ks ls : List JoinedTerm) → Comes (run at front) js ks → Comes (action at s) ks ls → Comes (run at (front ++ s ∷ [])) js ls
+  statement_comes front s js ks ls before one =
+      comes_same (λ m. through (run at (s ∷ [])) (run at front m)) (run at (front ++ s ∷ [])) js ls (λ m. sym (rows at front (s ∷ []) m))
+      (comes_through (run at front) (run at (s ∷ [])) js ks ls before (comes_same (action at s) (run at (s ∷ [])) ks ls (λ m. sym (one_alone (action at s) m)) one))
+
+  -- ---- by their kinds
+
+  pub plain_runs : (l : ReadyLeaf) (js i a : List JoinedTerm) → Runs (leaf at l) js i a → Runs (action at (acting.Plain l)) js i a
+  plain_runs l js i a = runs_same (leaf at l) (action at (acting.Plain l)) js i a (λ m. sym (of_plain at l m))
+
+  pub repeat_runs : (b : List Statement) (js i a : List JoinedTerm) → Runs (turns at.turns (run at b)) js i a → Runs (action at (acting.Repeat b)) js i a
+  repeat_runs b js i a = runs_same (turns at.turns (run at b)) (action at (acting.Repeat b)) js i a (λ m. sym (of_repeat at b m))
+
+  pub choose_runs : (bs : List Chosen) (last : Option (List Statement)) (js i a : List JoinedTerm)
+      → Runs (first_branch (map (branch_by (action at)) bs) (option_map (map (action at)) last)) js i a → Runs (action at (acting.Choose bs last)) js i a
+  choose_runs bs last js i a =
+      runs_same (first_branch (map (branch_by (action at)) bs) (option_map (map (action at)) last)) (action at (acting.Choose bs last)) js i a (λ m. sym (of_choose at bs last m))

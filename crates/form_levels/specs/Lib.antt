@@ -1,0 +1,9 @@
+pub mod Asks
+pub mod Becoming
+pub mod Heaps
+pub mod Outputs
+pub mod Parting
+pub mod Rows
+pub mod Rules
+pub mod Runs
+pub mod Stretches

@@ -1,0 +1,85 @@
+ghost use Rattle.std.specs.Prelude.{◌≡◌, IfOk, IfSome};
+ghost use Rattle.form_flow.specs.Statements.{action as action_of, run};
+ghost use Rattle.form_levels.specs.Heaps.{limits_of};
+ghost use Rattle.form_levels.specs.Outputs.{HasOutputs};
+ghost use Rattle.form_levels.specs.Runs.{Comes};
+
+use crate::heap::Heap;
+use crate::levels::Levels;
+use crate::pace::Pace;
+use form_flow::{CompiledModule, ReadyAction};
+use form_gathered::{JoinedTerm, counted, joined_inputs};
+use form_term::Monomial;
+use std::alloc::{AllocError, Global};
+
+/// What a module's statements make of inputs, joined; none where it isn't certain that no input is refused and that none has too
+/// many outputs.
+pub fn joined_outputs(
+    alloc: Global,
+    compiled: &CompiledModule,
+    inputs: &[Monomial],
+    pace: &mut Pace,
+) -> Result<Option<Vec<JoinedTerm>>, AllocError>
+    ensures { IfOk result (λ made. IfSome made (λ outputs. HasOutputs compiled.now inputs.now outputs.items)) }
+{
+    pace.begin_batch();
+    let Some(terms) = joined_inputs(alloc, inputs)? else {
+        return Ok(None);
+    };
+    let levels = Levels { alloc, compiled };
+    let Some(outputs) = levels.statements(compiled.block().as_slice(), terms, pace)? else {
+        return Ok(None);
+    };
+    let Some(count) = counted(&outputs) else {
+        return Ok(None);
+    };
+    if count > compiled.limit() {
+        return Ok(None);
+    }
+    Ok(Some(outputs))
+}
+
+impl<'m, 'a> Levels<'m, 'a> {
+    /// All statements, where it isn't asked on whose way something acted. What the last one makes isn't brought together.
+    fn statements(
+        &self,
+        block: &[ReadyAction<'a>],
+        terms: Vec<JoinedTerm>,
+        pace: &mut Pace,
+    ) -> Result<Option<Vec<JoinedTerm>>, AllocError>
+        ensures { IfOk result (λ made. IfSome made (λ outputs. Comes (run (limits_of self.now) block.now) terms.items outputs.items)) }
+    {
+        let Some((last, others)) = block.split_last() else {
+            return Ok(Some(terms));
+        };
+        let mut terms = terms;
+        for action in others {
+            let joins = pace.is_likely();
+            let Some(more) = self.statement(action, terms, joins, pace)? else {
+                return Ok(None);
+            };
+            terms = more;
+        }
+        self.statement(last, terms, false, pace)
+    }
+
+    /// A statement on all terms.
+    fn statement(
+        &self,
+        action: &ReadyAction<'a>,
+        terms: Vec<JoinedTerm>,
+        joins: bool,
+        pace: &mut Pace,
+    ) -> Result<Option<Vec<JoinedTerm>>, AllocError>
+        ensures { IfOk result (λ made. IfSome made (λ all. Comes (action_of (limits_of self.now) action.now) terms.items all.items)) }
+    {
+        let mut heap = Heap::new(self.alloc, joins);
+        let Some(idle) = self.act(action, terms, &mut heap, pace)? else {
+            return Ok(None);
+        };
+        if !heap.put_untouched(idle)? {
+            return Ok(None);
+        }
+        Ok(Some(heap.into_vec(pace)?))
+    }
+}

@@ -1,0 +1,22 @@
+use Rattle.std.proofs.Common.{◌≡◌, true, [], Some, subst, sym}
+use Rattle.std.proofs.lemmas.Result.{err_from_is_err_and}
+use Rattle.form_flow.specs.Statements.{outputs}
+use Rattle.form_gathered.specs.Joined.{HaveSums}
+use Rattle.form_module.specs.Inputs.{inputs_left}
+use Rattle.form_module.specs.Module.{through}
+use Rattle.form_module.proofs.Collected.{not_collected, to_the_end}
+use Rattle.form_module.proofs.Summed.{none_summed}
+use Rattle.form_module.proofs.joined.joined_terms.Goals as goal
+
+pub returns-in_err-add_inputs : goal.returns-in_err-add_inputs
+returns-in_err-add_inputs c =
+    let p = err_from_is_err_and c.from_residual.result c.from_residual.ensures.1 in
+    rw (p.1, p.2) (not_collected (through (outputs c.args.statements.now) (inputs_left c.args.inputs.now)) c.in_err-add_inputs.field-0.0 c.in_err-add_inputs.ensures)
+
+pub returns : goal.returns
+returns c =
+    let l = through (outputs c.args.statements.now) (inputs_left c.args.inputs.now) in
+    let is_added : c.in_ok-add_inputs.field-0 ≡ true = c.if-not-branch.false in
+    let added = rw is_added at c.in_ok-add_inputs.ensures in
+    to_the_end l (Some c.in_ok-into_terms.field-0) added.0
+    (c.in_ok-into_terms.ensures l.terms (added.1 [] (subst (λ js. HaveSums js []) (sym c.new-table.ensures) none_summed)))

@@ -1,0 +1,216 @@
+//! Results that are found with equal terms joined on the way.
+ghost use Rattle.std.specs.Prelude.{[], ◌∷◌, None, IfOk, IfSome};
+ghost use Rattle.form_flow.specs.Left.{outputs_left};
+ghost use Rattle.form_flow.specs.Statements.{outputs as outputs_of};
+ghost use Rattle.form_levels.specs.Outputs.{HasOutputs};
+ghost use Rattle.form_module.specs.Inputs.{inputs_left};
+ghost use Rattle.form_module.specs.Module.{collected_list, result_of as result_meant, through};
+ghost use Rattle.form_module.specs.Summed.{AreAddedIf, AreTogetherIf, GivesIfAny, IsPut};
+
+use crate::inputs::{Batch, BatchEnd, Inputs, next_batch};
+use crate::result_error::ResultError;
+use form_base::{Cause, Settings};
+use form_collect::Terms;
+use form_flow::{CompiledModule, Outputs};
+use form_gathered::laws::joined_lists;
+use form_gathered::{Joined, JoinedTerm};
+use form_levels::{Pace, joined_outputs};
+use form_term::Monomial;
+use std::alloc::{AllocError, Global};
+
+/// The result of inputs, where it is found with equal terms joined on the way; none where sums aren't surely in range in
+/// whatever order they are made.
+pub fn joined_result(
+    alloc: Global,
+    settings: &Settings,
+    statements: &CompiledModule,
+    inputs: &mut Inputs,
+) -> Result<Option<Terms>, ResultError>
+    ensures { GivesIfAny result (result_meant settings.now.max_terms statements.now (inputs_left inputs.old)) }
+{
+    let Some(terms) = joined_terms(alloc, statements, inputs)? else {
+        return Ok(None);
+    };
+    if terms.as_slice().len() as u64 > settings.max_terms {
+        return Err(ResultError::Refused(Cause::TermLimit));
+    }
+    Ok(Some(terms))
+}
+
+/// What the statements make of inputs comes to; none where it doesn't join.
+fn joined_terms(
+    alloc: Global,
+    statements: &CompiledModule,
+    inputs: &mut Inputs,
+) -> Result<Option<Terms>, ResultError>
+    ensures { GivesIfAny result (collected_list (through (outputs_of statements.now) (inputs_left inputs.old))) }
+{
+    let mut table = Joined::new(alloc);
+    if !add_inputs(alloc, statements, inputs, &mut table)? {
+        return Ok(None);
+    }
+    Ok(Some(table.into_terms()?))
+}
+
+/// Adds what the statements make of inputs. Answers false where it doesn't join.
+fn add_inputs(
+    alloc: Global,
+    statements: &CompiledModule,
+    inputs: &mut Inputs,
+    table: &mut Joined,
+) -> Result<bool, ResultError>
+    ensures { IsPut (through (outputs_of statements.now) (inputs_left inputs.old)) table.old table.new result }
+{
+    let mut pace = Pace::new();
+    'batches: loop {
+        let Batch { items, end } = next_batch(alloc, inputs, pace.size())?;
+        if !add_batch(alloc, statements, &items, &mut pace, table)? {
+            return Ok(false);
+        }
+        match end {
+            BatchEnd::More => {}
+            BatchEnd::Done => return Ok(true),
+            BatchEnd::Failed(error) => return Err(ResultError::from(error)),
+        }
+    }
+}
+
+/// Adds what the statements make of these inputs: all together, or in parts where that made batches smaller, or one by one.
+/// Answers false where it doesn't join.
+fn add_batch(
+    alloc: Global,
+    statements: &CompiledModule,
+    items: &[Monomial],
+    pace: &mut Pace,
+    table: &mut Joined,
+) -> Result<bool, ResultError>
+    ensures { IsPut (through (outputs_of statements.now) (record { terms = items.now; end = None })) table.old table.new result }
+{
+    if let Some(outputs) = tried(alloc, statements, items, pace)? {
+        return Ok(add_joined(table, outputs)?);
+    }
+    if items.len() > pace.size() {
+        return add_parts(alloc, statements, items, pace, table);
+    }
+    add_one_by_one(alloc, statements, items, table)
+}
+
+/// The same part by part.
+fn add_parts(
+    alloc: Global,
+    statements: &CompiledModule,
+    items: &[Monomial],
+    pace: &mut Pace,
+    table: &mut Joined,
+) -> Result<bool, ResultError>
+    ensures { IsPut (through (outputs_of statements.now) (record { terms = items.now; end = None })) table.old table.new result }
+{
+    let mut rest = items;
+    while !rest.is_empty() {
+        let (part, behind) = rest.split_at(rest.len().min(pace.size()));
+        if !add_part(alloc, statements, part, pace, table)? {
+            return Ok(false);
+        }
+        rest = behind;
+    }
+    Ok(true)
+}
+
+/// The same of a part of a batch: together or one by one.
+fn add_part(
+    alloc: Global,
+    statements: &CompiledModule,
+    items: &[Monomial],
+    pace: &mut Pace,
+    table: &mut Joined,
+) -> Result<bool, ResultError>
+    ensures { IsPut (through (outputs_of statements.now) (record { terms = items.now; end = None })) table.old table.new result }
+{
+    match tried(alloc, statements, items, pace)? {
+        Some(outputs) => Ok(add_joined(table, outputs)?),
+        None => add_one_by_one(alloc, statements, items, table),
+    }
+}
+
+/// What the statements make of these inputs together; none where that gained nothing lately, or isn't certain.
+fn tried(
+    alloc: Global,
+    statements: &CompiledModule,
+    items: &[Monomial],
+    pace: &mut Pace,
+) -> Result<Option<Vec<JoinedTerm>>, AllocError>
+    ensures { IfOk result (λ made. IfSome made (λ outputs. HasOutputs statements.now items.now outputs.items)) }
+{
+    if !pace.is_likely() {
+        pace.end_batch(true);
+        return Ok(None);
+    }
+    let outputs = joined_outputs(alloc, statements, items, pace)?;
+    pace.end_batch(outputs.is_some());
+    Ok(outputs)
+}
+
+/// Adds joined terms. Answers false where they don't join.
+fn add_joined(table: &mut Joined, terms: Vec<JoinedTerm>) -> Result<bool, AllocError>
+    ensures { IfOk result (AreTogetherIf table.old terms.items table.new) }
+{
+    for term in terms {
+        if !table.add(term)? {
+            return Ok(false);
+        }
+    }
+    Ok(true)
+}
+
+/// Adds what the statements make of each of these terms, as it is defined. Answers false where it doesn't join.
+fn add_one_by_one(
+    alloc: Global,
+    statements: &CompiledModule,
+    items: &[Monomial],
+    table: &mut Joined,
+) -> Result<bool, ResultError>
+    ensures { IsPut (through (outputs_of statements.now) (record { terms = items.now; end = None })) table.old table.new result }
+{
+    for item in items {
+        if !add_item(alloc, statements, item.clone()?, table)? {
+            return Ok(false);
+        }
+    }
+    Ok(true)
+}
+
+/// Adds what the statements make of a term.
+fn add_item(
+    alloc: Global,
+    statements: &CompiledModule,
+    item: Monomial,
+    table: &mut Joined,
+) -> Result<bool, ResultError>
+    ensures { IsPut (outputs_of statements.now item) table.old table.new result }
+{
+    add_outputs(alloc, &mut statements.outputs(alloc, item), table)
+}
+
+/// Adds all outputs that are left. Answers false where they don't join.
+fn add_outputs(
+    alloc: Global,
+    outputs: &mut Outputs,
+    table: &mut Joined,
+) -> Result<bool, ResultError>
+    ensures { IsPut (outputs_left outputs.old) table.old table.new result }
+{
+    while let Some(item) = outputs.next(alloc)? {
+        if !add_term(table, item)? {
+            return Ok(false);
+        }
+    }
+    Ok(true)
+}
+
+/// Adds a term. Answers false where it doesn't join.
+fn add_term(table: &mut Joined, item: Monomial) -> Result<bool, AllocError>
+    ensures { IfOk result (AreAddedIf table.old table.new (item ∷ [])) }
+{
+    joined_lists();
+    table.add(JoinedTerm::single(item))
+}
