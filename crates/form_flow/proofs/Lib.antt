@@ -29,6 +29,7 @@ pub mod Separate
 pub mod Sizes
 pub mod Turned
 pub mod Turning
+pub mod Unrenamed
 pub mod Untaken
 pub mod Valued
 pub mod Waiting

@@ -130,18 +130,17 @@ call_stopped (ends own) f cause e = ap (named f) e
 -- ---- an argument
 
 -- one that isn't an expression, or isn't taken
+pub argument_left : (max : ℕ) (go : Monomial → Outcome) (acted taken : Bool) (a : Argument) → (taken && begins_sum (pieces_of_argument a)) ≡ false → cond taken (argument_behind max go acted a) (so_far a acted) ≡ so_far a acted
+argument_left max go acted false a e = refl
+argument_left max go acted true (index i) e = refl
+argument_left max go acted true (vector v) e = refl
+argument_left max go acted true (expression ss) e = absurd cc
+
 pub no_sum : (max : ℕ) (go : Monomial → Outcome) (acted : Bool) (old new part : List Piece) (a : Argument) → part ≡ pieces_of_argument a → new ≡ old ++ part → (taken : Bool) → (taken && begins_sum part) ≡ false
     → and_pieces_far old (cond taken (argument_behind max go acted a) (so_far a acted)) ≡ so_far new acted
-no_sum max go acted old new part a is e taken other = by taken a is other
-  where
-    put : (x : Argument) → part ≡ pieces_of_argument x → so_far (old ++ pieces_of_argument x) acted ≡ so_far new acted
-    put x h = ap (λ (qs : List Piece). so_far qs acted) (ap (λ (ps : List Piece). old ++ ps) (sym h) ∙ sym e)
-
-    by : (b : Bool) (x : Argument) → part ≡ pieces_of_argument x → (b && begins_sum part) ≡ false → and_pieces_far old (cond b (argument_behind max go acted x) (so_far x acted)) ≡ so_far new acted
-    by false x h o = put x h
-    by true (index i) h o = put (index i) h
-    by true (vector v) h o = put (vector v) h
-    by true (expression ss) h o = let never : true ≡ false = sym (ap begins_sum h) ∙ o in absurd cc
+no_sum max go acted old new part a is e taken other =
+    ap (and_pieces_far old) (argument_left max go acted taken a (ap (λ (qs : List Piece). taken && begins_sum qs) (sym is) ∙ other))
+    ∙ ap (λ (qs : List Piece). so_far qs acted) (ap (λ (ps : List Piece). old ++ ps) (sym is) ∙ sym e)
 
 -- an expression that is taken
 pub sum_taken : (max : ℕ) (go : Monomial → Outcome) (acted taken : Bool) (part : List Piece) (a : Argument) → IsArgumentOf IsTerm a → part ≡ pieces_of_argument a → (taken && begins_sum part) ≡ true

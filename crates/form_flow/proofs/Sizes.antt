@@ -114,7 +114,7 @@ size_of_summands (s ∷ ss) =
       sum_by-cons weight (as_monomial s) (map as_monomial ss),
     )
 
-size_of_expression : (ss : List Summand) → sum_by weight (map as_monomial ss) < size_of_pieces (pieces_of_argument (expression ss))
+pub size_of_expression : (ss : List Summand) → sum_by weight (map as_monomial ss) < size_of_pieces (pieces_of_argument (expression ss))
 size_of_expression ss =
     let end : size_of_pieces (pieces.EndOfSum ∷ []) ≡ 0 = refl in
     omega (arith, end, size_both (pieces.Sum ∷ flat_map pieces_of_summand ss) (pieces.EndOfSum ∷ []), size_next pieces.Sum (flat_map pieces_of_summand ss), size_of_summands ss)

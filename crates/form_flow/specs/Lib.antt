@@ -22,6 +22,7 @@ pub mod Sound
 pub mod Sources
 pub mod Statement
 pub mod Statements
+pub mod Staying
 pub mod Ways
 pub mod Weight
 pub mod Within

@@ -20,9 +20,14 @@ way act l = record {
   acted_before = l.acted_before;
 }
 
+-- the blocks around the innermost one, the next of them first
+abbrev pub outer_layers : Option Layer → List Layer → List Layer
+outer_layers None ls = []
+outer_layers (Some l) ls = l ∷ reverse ls
+
 -- the blocks that are open, the innermost first
 abbrev pub ways : Acting → Path → List Way
-ways act p = way act p.here ∷ map (way act) (reverse p.around.items)
+ways act p = way act p.here ∷ map (way act) (outer_layers p.outer p.around.items)
 
 -- the next statement of a block, and the block behind it; or its end
 abbrev pub Splits : Acting → Layer → Option (Bor Statement × Layer) → Type 0

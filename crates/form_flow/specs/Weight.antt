@@ -11,6 +11,7 @@ use Rattle.form_flow.specs.declared.compiled.ReadyLeaf.{ReadyLeaf}
 use Rattle.form_flow.specs.declared.compiled.ReadyLeaf.TheVariants.{Rewrite, Multiply, Sum, SumOver, Discard}
 use Rattle.form_flow.specs.declared.path.Layer.{Layer}
 use Rattle.form_flow.specs.declared.path.Path.{Path}
+use Rattle.form_flow.specs.Paths.{outer_layers}
 use Rattle.form_flow.specs.Ready.{Choice}
 use Rattle.form_flow.specs.Statement.{Limits, Statement}
 
@@ -55,7 +56,7 @@ abbrev pub layer_weight : Limits → Layer → ℕ
 layer_weight at l = suc (block_weight at l.rest.now + turns_weight at l.body l.left)
 
 abbrev pub path_weight : Limits → Path → ℕ
-path_weight at p = layer_weight at p.here + sum_by (layer_weight at) p.around.items
+path_weight at p = layer_weight at p.here + sum_by (layer_weight at) (outer_layers p.outer p.around.items)
 
 -- the next statement was passed
 abbrev pub Weighs : Limits → Option (Bor Statement) → (old new : ℕ) → Type 0

@@ -1,5 +1,5 @@
 -- What functions answer that carry a block out on the terms of arguments.
-use Rattle.std.specs.Prelude.{◌≡◌, ℕ, ◌≤◌, ◌==◌, ◌&&◌, ◌||◌, not, Bool, List, ◌++◌, length, Result, Ok, Err}
+use Rattle.std.specs.Prelude.{◌≡◌, ℕ, suc, ◌≤◌, ◌==◌, ◌&&◌, ◌||◌, not, Bool, false, List, [], ◌∷◌, ◌++◌, length, Result, Ok, Err}
 use Rattle.std.specs.Global.{Vec}
 use Rattle.std.specs.List.{list_any}
 use Rattle.form_check.specs.declared.checked.Picked.{Picked}
@@ -11,12 +11,14 @@ use Rattle.form_expand.specs.declared.error.ExpandError.TheVariants.{Refused, Me
 use Rattle.form_expand.specs.Listing.{Listing, followed, limited}
 use Rattle.form_expand.specs.Singles.{argument_of}
 use Rattle.form_expand.specs.Walks.{all_of}
+use Rattle.form_match.specs.Attempts.{begins_sum}
 use Rattle.form_normal.specs.Product.{is_fixed}
+use Rattle.form_term.specs.Arguments.{arguments_of}
 use Rattle.form_term.specs.declared.monomial.Monomial.{Monomial}
 use Rattle.form_term.specs.declared.piece.Piece.{Piece}
 use Rattle.form_term.specs.Term.{Argument, Call, Term, is_nil, pieces_of_argument}
 use Rattle.form_flow.specs.declared.within.Walk.{Walk}
-use Rattle.form_flow.specs.Arguments.{Progress, ends, so_far}
+use Rattle.form_flow.specs.Arguments.{Progress, ends, is_picked, so_far}
 use Rattle.form_flow.specs.Outcome.{Outcome, has_acted, listing_of}
 use Rattle.form_flow.specs.Statements.{run}
 
@@ -31,12 +33,20 @@ going_by w = run w.compiled.now.limits w.block.now
 abbrev pub is_named : List Picked → ℕ → Bool
 is_named ps f = is_nil ps || list_any (λ p. p.function == f) ps
 
-abbrev pub has_named : List Picked → List Call → Bool
-has_named ps cs = list_any (λ c. is_named ps c.function) cs
+-- an expression among these arguments, from a number on, is taken
+abbrev pub takes_from : List Picked → ℕ → ℕ → List Argument → Bool
+takes_from ps f k [] = false
+takes_from ps f k (a ∷ more) = (is_picked ps f k && begins_sum (pieces_of_argument a)) || takes_from ps f (suc k) more
 
--- no argument in a term may be taken, and none of its deltas is 1 or 0
+abbrev pub is_taken : List Picked → Call → Bool
+is_taken ps c = takes_from ps c.function 1 (arguments_of c.pieces)
+
+abbrev pub has_taken : List Picked → List Call → Bool
+has_taken ps cs = list_any (is_taken ps) cs
+
+-- no expression in a term is taken, and none of its deltas is 1 or 0
 abbrev pub is_left : List Picked → Term → Bool
-is_left ps t = not (has_named ps t.others.functions) && not (has_named ps t.others.word) && not (list_any is_fixed t.others.deltas)
+is_left ps t = not (has_taken ps t.others.functions) && not (has_taken ps t.others.word) && not (list_any is_fixed t.others.deltas)
 
 -- a value, seen by view, and whether something acted up to there; or the refusal
 abbrev pub Reaches : {A B : Type 0} → (A → B) → Result A ExpandError → Bool → Progress B → Type 0

@@ -35,7 +35,7 @@ fn put(index: Index, renaming: &Renaming) -> Index
     index
 }
 
-fn is_declared(index: &Index, id: Id) -> bool
+pub fn is_declared(index: &Index, id: Id) -> bool
     ensures { result ≡ is_declared_by id index.now }
 {
     match index {

@@ -1,11 +1,11 @@
 //! The way of a term: what is left of each block that is open around it.
-ghost use Rattle.std.specs.Prelude.{◌≡◌, ◌+◌, ◌*◌, ◌<◌, ◌∷◌, ◌||◌, [], false, true, suc, IfOk, Some, None};
+ghost use Rattle.std.specs.Prelude.{◌≡◌, ◌+◌, ◌*◌, ◌<◌, ◌∷◌, ◌||◌, [], false, true, suc, reverse, IfOk, Some, None};
 ghost use Rattle.form_term.specs.declared.monomial.Monomial.{Monomial};
 ghost use Rattle.form_flow.specs.Outcome.{bind, turns, without_marks};
 ghost use Rattle.form_flow.specs.Statement.{Limits};
 ghost use Rattle.form_flow.specs.Ways.{Acting, acts_of, fresh, finish, mark, out, run_each};
 ghost use Rattle.form_flow.specs.Weight.{Weighs, Weighs_less, block_weight, layer_weight, path_weight};
-ghost use Rattle.form_flow.specs.Paths.{IsNext, IsUnchanged, Splits, Leaves, way, ways};
+ghost use Rattle.form_flow.specs.Paths.{IsNext, IsUnchanged, Splits, Leaves, outer_layers, way, ways};
 
 use crate::compiled::{ReadyAction, ReadyBlock};
 use std::alloc::{AllocError, Global};
@@ -24,10 +24,13 @@ pub struct Layer<'m, 'a> {
     acted_before: bool,
 }
 
-/// What is left for a term to go through: the innermost block that is open, and those around it, the outermost first.
+/// What is left for a term to go through: the innermost block that is open, and those around it.
 #[derive(Drop)]
 pub struct Path<'m, 'a> {
     here: Layer<'m, 'a>,
+    /// The next one around it, where there is one, which takes no memory.
+    outer: Option<Layer<'m, 'a>>,
+    /// Those around that, the outermost first; without it they tell nothing.
     around: Vec<Layer<'m, 'a>>,
 }
 
@@ -114,7 +117,11 @@ impl<'m, 'a> Path<'m, 'a> {
     {
         let here = Layer::plain(block);
         let around = Vec::new(alloc);
-        Path { here, around }
+        Path {
+            here,
+            outer: None,
+            around,
+        }
     }
 
     /// The next statement of the block, which is passed.
@@ -144,6 +151,7 @@ impl<'m, 'a> Path<'m, 'a> {
     {
         Ok(Path {
             here: self.here,
+            outer: self.outer,
             around: Vec::from_slice(alloc, self.around.as_slice())?,
         })
     }
@@ -154,6 +162,7 @@ impl<'m, 'a> Path<'m, 'a> {
         ensures weight { (at : Limits) → IfOk result (λ _. path_weight at self.new ≡ path_weight at other.now) }
     {
         self.here = other.here;
+        self.outer = other.outer;
         self.around.clear();
         self.around.extend_from_slice(other.around.as_slice())
     }
@@ -182,7 +191,8 @@ impl<'m, 'a> Path<'m, 'a> {
         ensures begins { (act : Acting) → IfOk result (λ _. ways act self.new ≡ way act layer.entry ∷ ways act self.old) }
         ensures weight { (at : Limits) → IfOk result (λ _. path_weight at self.new ≡ layer_weight at layer.entry + path_weight at self.old) }
     {
-        self.around.push(self.here)?;
+        keep_outer(&mut self.around, self.outer)?;
+        self.outer = Some(self.here);
         self.here = layer;
         Ok(())
     }
@@ -225,10 +235,30 @@ impl<'m, 'a> Path<'m, 'a> {
         ensures leaves { (act : Acting) (m : Monomial) → Leaves result (finish (ways act self.old) false m) (finish (ways act self.new) false m) m }
         ensures weight { (at : Limits) → result ≡ Left.Inside → path_weight at self.new < path_weight at self.old }
     {
-        let Some(outer) = self.around.pop() else {
+        let Some(outer) = self.outer else {
             return Left::Outside;
         };
+        self.outer = self.around.pop();
         self.here = outer.marked(self.here.acted());
         Left::Inside
+    }
+}
+
+/// The next block around one joins those around that; without it there are none.
+fn keep_outer<'m, 'a>(
+    around: &mut Vec<Layer<'m, 'a>>,
+    outer: Option<Layer<'m, 'a>>,
+) -> Result<(), AllocError>
+    ensures { IfOk result (λ _. reverse around.new.items ≡ outer_layers outer.entry around.old.items) }
+{
+    match outer {
+        Some(outer) => {
+            around.push(outer)?;
+            Ok(())
+        }
+        None => {
+            around.clear();
+            Ok(())
+        }
     }
 }

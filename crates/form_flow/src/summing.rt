@@ -1,6 +1,6 @@
 //! `sum`: indices that become dummies, or that take values.
 ghost use Rattle.std.specs.Prelude.{◌≡◌, List, map, IfOk, OnOk};
-ghost use Rattle.form_flow.specs.Indices.{and_dummy, become, dummies as dummies_of, dummies_put, indices_in};
+ghost use Rattle.form_flow.specs.Indices.{and_dummy, become, dummies as dummies_of, dummies_put, indices_in, number_put};
 ghost use Rattle.form_flow.specs.Left.{Nexts};
 ghost use Rattle.form_flow.specs.Made.{Makes};
 ghost use Rattle.form_flow.specs.Numbering.{AreNumbered};
@@ -9,6 +9,7 @@ ghost use Rattle.form_term.specs.declared.index.Index.{Index as Place};
 
 use crate::indices::{Renaming, all_put, free_dummy, has_declared, indices_of};
 use crate::renaming::all_renamed;
+use crate::staying::stays;
 use form_base::Id;
 use form_expand::ExpandError;
 use form_term::{Index, Monomial, Term};
@@ -30,11 +31,7 @@ impl Numbers<'_> {
     {
         while let Some((value, rest)) = self.values.split_first() {
             self.values = rest;
-            let renaming = Renaming {
-                from: self.index,
-                to: Index::Fixed(*value),
-            };
-            match all_renamed(alloc, &self.item, &[renaming]) {
+            match with_number(alloc, &self.item, self.index, *value) {
                 Ok(Some(made)) => return Ok(Some(made)),
                 Ok(None) => {}
                 Err(error) => return Err(error),
@@ -42,6 +39,26 @@ impl Numbers<'_> {
         }
         Ok(None)
     }
+}
+
+/// A term in which an index becomes this number.
+fn with_number(
+    alloc: Global,
+    item: &Monomial,
+    index: Id,
+    value: u32,
+) -> Result<Option<Monomial>, ExpandError>
+    ensures { Makes result (number_put index value item.now) }
+{
+    if stays(&[index], &item.term) {
+        item.laws();
+        return Ok(Some(item.clone()?));
+    }
+    let renaming = Renaming {
+        from: index,
+        to: Index::Fixed(value),
+    };
+    all_renamed(alloc, item, &[renaming])
 }
 
 /// A term in which these indices become dummies, one after the other: each takes the least number from 1 that isn't there.
@@ -52,6 +69,10 @@ pub fn with_dummies(
 ) -> Result<Option<Monomial>, ExpandError>
     ensures { Makes result (dummies_put indices.now item) }
 {
+    if stays(indices, &item.term) {
+        item.laws();
+        return Ok(Some(item));
+    }
     let renamings = dummies(alloc, indices, &item.term)?;
     all_renamed(alloc, &item, &renamings)
 }

@@ -8,7 +8,7 @@ ghost use Rattle.form_flow.specs.Left.{left};
 ghost use Rattle.form_flow.specs.Outcome.{acted_or_not, done, has_acted as has_acted_in};
 ghost use Rattle.form_flow.specs.Sources.{HasEffect};
 ghost use Rattle.form_flow.specs.Statements.{run};
-ghost use Rattle.form_flow.specs.Within.{Adds, AreBehind, Reaches, and_pieces_far, going_by, has_named as has_named_of, is_left as is_left_of, is_named as is_named_of, most_of};
+ghost use Rattle.form_flow.specs.Within.{Adds, AreBehind, Reaches, and_pieces_far, going_by, has_taken as has_taken_of, is_left as is_left_of, is_named as is_named_of, is_taken, most_of, takes_from};
 ghost use Rattle.form_match.specs.Attempts.{begins_sum as begins_sum_of};
 ghost use Rattle.form_normal.specs.Product.{is_fixed as is_fixed_of, product};
 ghost use Rattle.form_term.specs.Arguments.{arguments_of, first_summands};
@@ -18,11 +18,12 @@ use crate::collecting::{begins_sum, first_argument, made_from, terms_of};
 use crate::compiled::{CompiledModule, ReadyBlock};
 use crate::descent::Descent;
 use crate::effect::Effect;
+use crate::staying::is_fixed;
 use form_base::{Cause, Id};
 use form_check::Picked;
 use form_collect::Collector;
 use form_expand::ExpandError;
-use form_term::{Arguments, Call, Delta, Index, Monomial, Others, Piece, terms_in};
+use form_term::{Arguments, Call, Delta, Monomial, Others, Piece, terms_in};
 use std::alloc::Global;
 
 /// A block with the functions whose arguments it takes, those of all where none is named, and where memory comes from.
@@ -71,21 +72,46 @@ pub fn in_arguments<'m, 'a>(
     }
 }
 
-/// Whether a term stays as it is: no function in it is named, and no delta of it is 1 or 0.
+/// Whether a term stays as it is: no expression in it is taken, and no delta of it is 1 or 0.
 fn is_left(functions: &[Picked], item: &Monomial) -> bool
     ensures { result ≡ is_left_of functions.now item.now.term }
 {
-    !has_named(functions, item.term.functions())
-        && !has_named(functions, item.term.word())
+    !has_taken(functions, item.term.functions())
+        && !has_taken(functions, item.term.word())
         && !has_fixed(item.term.deltas())
 }
 
-fn has_named(functions: &[Picked], calls: &[Call]) -> bool
-    ensures { result ≡ has_named_of functions.now calls.now }
+fn has_taken(functions: &[Picked], calls: &[Call]) -> bool
+    ensures { result ≡ has_taken_of functions.now calls.now }
 {
-    calls
-        .iter()
-        .any(|call| is_named(functions, call.function()))
+    calls.iter().any(|call| takes(functions, call))
+}
+
+/// Whether an expression among the arguments of a function is taken.
+fn takes(functions: &[Picked], call: &Call) -> bool
+    ensures { result ≡ is_taken functions.now call.now }
+{
+    let function = call.function();
+    if !is_named(functions, function) {
+        return false;
+    }
+    takes_one(functions, function, call.pieces())
+}
+
+fn takes_one(functions: &[Picked], function: Id, pieces: &[Piece]) -> bool
+    requires { AreArguments pieces.now }
+    ensures { result ≡ takes_from functions.now function 1 (arguments_of pieces.now) }
+{
+    let mut rest = pieces;
+    let mut number = 1;
+    while let Some((part, behind)) = first_argument(rest) {
+        if takes_sum(is_picked(functions, function, number), part) {
+            return true;
+        }
+        number += 1;
+        rest = behind;
+    }
+    false
 }
 
 /// Whether an argument of a function may be taken.
@@ -105,17 +131,6 @@ fn has_fixed(deltas: &[Delta]) -> bool
     ensures { result ≡ list_any is_fixed_of deltas.now }
 {
     deltas.iter().any(|delta| is_fixed(delta))
-}
-
-/// Whether both indices of a delta are fixed, and it is 1 or 0.
-#[tactic(auto, using(crate::proofs::Untaken::equal_or_not))]
-fn is_fixed(delta: &Delta) -> bool
-    ensures { result ≡ is_fixed_of delta.now }
-{
-    match (delta.first, delta.second) {
-        (Index::Fixed(_), Index::Fixed(_)) => true,
-        _ => false,
-    }
 }
 
 /// Whether an argument of a function is taken, by its number from 1.
@@ -174,12 +189,12 @@ fn call_behind(walk: &Walk, has_acted: &mut bool, call: &Call) -> Result<Call, E
         (call_behind_of (most_of walk.now) (going_by walk.now) walk.now.functions.now has_acted.old call.now) }
     ensures lawful { IfOk result IsCall }
 {
-    let function = call.function();
-    if !is_named(walk.functions, function) {
+    if !takes(walk.functions, call) {
         let own = call.clone()?;
         let _ = own.pieces();
         return Ok(own);
     }
+    let function = call.function();
     let mut rest = call.pieces();
     let mut arguments = Arguments::with_capacity(walk.alloc, room_for(rest))?;
     let mut number: u128 = 1;

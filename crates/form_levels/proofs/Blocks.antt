@@ -1,15 +1,12 @@
--- Statements on joined terms: by their kinds, and one after the other.
-use Rattle.std.proofs.Common.{◌≡◌, Bool, List, [], ◌∷◌, ◌++◌, map, Option, option_map, refl, sym, ap, ◌∙◌}
-use Rattle.form_base.specs.declared.block.Action.TheVariants as acting
+-- Statements on joined terms, one after the other.
+use Rattle.std.proofs.Common.{◌≡◌, Bool, List, [], ◌∷◌, ◌++◌, refl, sym, ap, ◌∙◌}
 use Rattle.form_term.specs.declared.monomial.Monomial.{Monomial}
 use Rattle.form_gathered.specs.Joined.{Stand}
 use Rattle.form_gathered.specs.declared.joined.JoinedTerm.{JoinedTerm}
-use Rattle.form_flow.specs.declared.compiled.ReadyLeaf.{ReadyLeaf}
-use Rattle.form_flow.specs.Outcome.{Output, output, Ended, Outcome, single, unchanged, then_at, and_then, each, onward, through, turns}
-use Rattle.form_flow.specs.Statement.{Chosen, Limits, Statement}
-use Rattle.form_flow.specs.Statements.{action, branch_by, first_branch, leaf, run}
+use Rattle.form_flow.specs.Outcome.{Output, output, Ended, Outcome, single, unchanged, then_at, and_then, each, onward, through}
+use Rattle.form_flow.specs.Statement.{Limits, Statement}
+use Rattle.form_flow.specs.Statements.{action, run}
 use Rattle.form_flow.specs.Ways.{run_each}
-use Rattle.form_flow.proofs.Acting.{of_plain, of_repeat, of_choose}
 use Rattle.form_flow.proofs.Binding.{outcome, or_false, or_nothing}
 use Rattle.form_flow.proofs.Finishing.{bind_alike}
 use Rattle.form_flow.proofs.Turning.{rows}
@@ -57,16 +54,3 @@ module _ (at : Limits) where
   statement_comes front s js ks ls before one =
       comes_same (λ m. through (run at (s ∷ [])) (run at front m)) (run at (front ++ s ∷ [])) js ls (λ m. sym (rows at front (s ∷ []) m))
       (comes_through (run at front) (run at (s ∷ [])) js ks ls before (comes_same (action at s) (run at (s ∷ [])) ks ls (λ m. sym (one_alone (action at s) m)) one))
-
-  -- ---- by their kinds
-
-  pub plain_runs : (l : ReadyLeaf) (js i a : List JoinedTerm) → Runs (leaf at l) js i a → Runs (action at (acting.Plain l)) js i a
-  plain_runs l js i a = runs_same (leaf at l) (action at (acting.Plain l)) js i a (λ m. sym (of_plain at l m))
-
-  pub repeat_runs : (b : List Statement) (js i a : List JoinedTerm) → Runs (turns at.turns (run at b)) js i a → Runs (action at (acting.Repeat b)) js i a
-  repeat_runs b js i a = runs_same (turns at.turns (run at b)) (action at (acting.Repeat b)) js i a (λ m. sym (of_repeat at b m))
-
-  pub choose_runs : (bs : List Chosen) (last : Option (List Statement)) (js i a : List JoinedTerm)
-      → Runs (first_branch (map (branch_by (action at)) bs) (option_map (map (action at)) last)) js i a → Runs (action at (acting.Choose bs last)) js i a
-  choose_runs bs last js i a =
-      runs_same (first_branch (map (branch_by (action at)) bs) (option_map (map (action at)) last)) (action at (acting.Choose bs last)) js i a (λ m. sym (of_choose at bs last m))

@@ -14,7 +14,7 @@ use Rattle.form_levels.specs.Runs.{Runs}
 use Rattle.form_levels.specs.Heaps.{RunsInto, AllInto, BothInto}
 use Rattle.form_levels.specs.declared.level.Level.{Level}
 use Rattle.form_levels.proofs.Blocks.{statement_done}
-use Rattle.form_levels.proofs.Running.{runs_none, runs_beside, runs_of, runs_to, runs_same, runs_turn}
+use Rattle.form_levels.proofs.Running.{runs_none, runs_beside, runs_to, runs_turn}
 use Rattle.form_levels.proofs.Standing.{stand_itself, stand_same, stand_on, stand_moved, stand_beside}
 
 -- ---- putting
@@ -58,12 +58,6 @@ into_of go js i a old new r h = record { acted = a; runs = r; put = h }
 -- into a heap in which nothing was
 pub into_fresh : (go : Monomial → Outcome) (js i new : List JoinedTerm) → RunsInto go js i [] new → Runs go js i new
 into_fresh go js i new r = runs_to go js i r.acted i new (stand_itself i) r.put r.runs
-
-pub into_same : (f go : Monomial → Outcome) (js i old new : List JoinedTerm) → ((m : Monomial) → f m ≡ go m) → RunsInto f js i old new → RunsInto go js i old new
-into_same f go js i old new e r = record { acted = r.acted; runs = runs_same f go js i r.acted e r.runs; put = r.put }
-
-pub into_stand : (go : Monomial → Outcome) (js ks i old new : List JoinedTerm) → Stand ks js → RunsInto go js i old new → RunsInto go ks i old new
-into_stand go js ks i old new h r = record { acted = r.acted; runs = runs_of go js ks i r.acted h r.runs; put = r.put }
 
 -- ---- a statement on a level
 

@@ -1,3 +1,4 @@
+pub mod Agreeing
 pub mod Asked
 pub mod Blocks
 pub mod Branching
@@ -8,11 +9,13 @@ pub mod Ended
 pub mod Heaps
 pub mod Inputs
 pub mod Leaves
-pub mod Left
+pub mod Linear
 pub mod Marked
 pub mod Parting
 pub mod Rows
 pub mod Running
+pub mod ScaledLists
+pub mod Scaling
 pub mod Standing
 pub mod Stepping
 pub mod Terms

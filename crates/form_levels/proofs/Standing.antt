@@ -1,7 +1,6 @@
 -- Joined terms that stand for whatever others stand for.
-use Rattle.std.proofs.Common.{◌≡◌, ℕ, List, [], ◌∷◌, ◌++◌, subst}
+use Rattle.std.proofs.Common.{◌≡◌, List, ◌++◌, subst}
 use Rattle.std.specs.List.Sorted.{IsPermutation}
-use Rattle.form_term.specs.declared.monomial.Monomial.{Monomial}
 use Rattle.form_gathered.specs.Joined.{IsShare, IsJoined, Stand}
 use Rattle.form_gathered.specs.declared.joined.JoinedTerm.{JoinedTerm}
 use Rattle.form_gathered.proofs.Joining.{split, beside, moved, exchanged}
@@ -24,9 +23,3 @@ pub stand_beside : (js ks js2 ks2 : List JoinedTerm) → Stand js js2 → Stand 
 stand_beside js ks js2 ks2 f g n lists h =
     let s = split (IsShare n) n js ks lists h in
     moved (IsShare n) n (js2 ++ ks2) (λ k. s.first k ++ s.second k) lists s.whole (beside (IsShare n) n js2 ks2 s.first s.second (f n s.first s.left) (g n s.second s.right))
-
--- one that is added to others
-pub stand_added : (old new : List JoinedTerm) (j : JoinedTerm) → ((n : ℕ) (a b : ℕ → List Monomial) → IsJoined n old a → IsJoined n (j ∷ []) b → IsJoined n new (λ k. a k ++ b k)) → Stand (old ++ j ∷ []) new
-stand_added old new j add n lists h =
-    let s = split (IsShare n) n old (j ∷ []) lists h in
-    moved (IsShare n) n new (λ k. s.first k ++ s.second k) lists s.whole (add n s.first s.second s.left s.right)

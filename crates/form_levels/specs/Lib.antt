@@ -1,6 +1,7 @@
 pub mod Asks
 pub mod Becoming
 pub mod Heaps
+pub mod Linear
 pub mod Outputs
 pub mod Parting
 pub mod Rows

@@ -1,10 +1,10 @@
 //! Laws of the definitions, each the contract of a function that does nothing.
 
-ghost use Rattle.std.specs.Prelude.{◌≡◌, ◌≤◌, ℕ, suc, List, [], ◌∷◌, ◌++◌, length, Option, false, true};
+ghost use Rattle.std.specs.Prelude.{◌≡◌, ◌≤◌, ℕ, suc, pos, List, [], ◌∷◌, ◌++◌, length, Option, false, true};
 ghost use Rattle.std.specs.List.{AllByRecursion};
 ghost use Rattle.form_ast.specs.declared.statement.Side.{Side};
 ghost use Rattle.form_base.specs.declared.block.Branch.{Branch};
-ghost use Rattle.form_frac.specs.Fraction.{Fraction};
+ghost use Rattle.form_frac.specs.Fraction.{Fraction, IsLowest, whole};
 ghost use Rattle.form_term.specs.Term.{Term};
 ghost use Rattle.form_term.specs.declared.monomial.Monomial.{Monomial};
 ghost use Rattle.form_tree.specs.Condition.{Alternatives};
@@ -17,10 +17,11 @@ ghost use Rattle.form_flow.specs.declared.compiled.ReadyLeaf.TheVariants.{Rewrit
 ghost use Rattle.form_flow.specs.Outcome.{Outcome, through, turns};
 ghost use Rattle.form_flow.specs.Ready.{Choice, Part};
 ghost use Rattle.form_flow.specs.Rewriting.{list_of_rest, rest_of};
-ghost use Rattle.form_flow.specs.Statement.{Compiled, Limits};
-ghost use Rattle.form_flow.specs.Statements.{first_branch, is_so, leaf, multiplied, run};
+ghost use Rattle.form_flow.specs.Statement.{Compiled, Limits, Statement};
+ghost use Rattle.form_flow.specs.Statements.{first_branch, is_so, leaf, multiplied, outputs, run};
 ghost use Rattle.form_flow.specs.Ways.{run_each};
 ghost use Rattle.form_levels.specs.Asks.{asks_coefficient};
+ghost use Rattle.form_levels.specs.Linear.{Agree, AgreeListing, AreLinear, scaled, scaled_list, scaled_outcome};
 ghost use Rattle.form_levels.specs.Outputs.{HasOutputs};
 ghost use Rattle.form_levels.specs.Runs.{Runs, Comes};
 
@@ -28,6 +29,17 @@ ghost use Rattle.form_levels.specs.Runs.{Runs, Comes};
 pub fn coefficients_that_are_not_asked_for()
     ensures { (rs : List Ready) (a : Alternatives) (c d : Fraction) (t : Term) → asks_coefficient a ≡ false →
         holds rs a c t ≡ holds rs a d t }
+{}
+
+/// What linear statements make of c times a term is c times what they make of the term; unless one of both overflows, and then
+/// they agree up to there. In particular it is c times what they make of that term with the coefficient 1.
+pub fn outputs_are_linear()
+    ensures run { (at : Limits) (ss : List Statement) (c : Fraction) (m : Monomial) → AreLinear ss →
+        Agree (scaled_outcome c (run at ss m)) (run at ss (scaled c m)) }
+    ensures one { (at : Limits) (ss : List Statement) (c : Fraction) (t : Term) → AreLinear ss → IsLowest c →
+        Agree (scaled_outcome c (run at ss (record { coefficient = whole (pos 1); term = t }))) (run at ss (record { coefficient = c; term = t })) }
+    ensures outputs { (k : Compiled) (c : Fraction) (m : Monomial) → AreLinear k.statements →
+        AgreeListing (scaled_list c (outputs k m)) (outputs k (scaled c m)) }
 {}
 
 /// Joined terms may be carried out in parts, and in the place of what comes of them others may stand that stand for the same.

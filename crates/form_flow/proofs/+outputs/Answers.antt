@@ -26,7 +26,7 @@ use Rattle.form_term.specs.declared.piece.Piece.{Piece}
 use Rattle.form_term.specs.Monomial.{summands_of}
 use Rattle.form_term.specs.Term.{Argument, AreArguments, Call, IsCall, expression, order, pieces_of_argument}
 use Rattle.form_flow.specs.Outcome.{Outcome, done, has_acted, listing_of}
-use Rattle.form_flow.specs.Within.{Adds, Reaches, and_pieces_far, going_by, is_named, most_of}
+use Rattle.form_flow.specs.Within.{Adds, Reaches, and_pieces_far, going_by, most_of}
 use Rattle.form_flow.proofs.Firsts.{first_lawful, rest_shorter}
 use Rattle.form_flow.proofs.Outcomes.{Passed, adds_same, all_drained, all_passed, error_drained, end_drained, is_done, limit_drained, listing_unmarked, none_drained, none_passed, one_drained, one_passed, term_refused}
 use Rattle.form_flow.proofs.Reached.{all_anew, behind_far, behind_none_far, call_ends, call_next, call_reached, call_stopped, calls_reached, effect_made, effect_refused, far_ends, far_next, far_written, functions_stopped, no_sum, still_ends, sum_reached, sum_stopped, sum_taken, word_stopped, written_far}
@@ -377,13 +377,12 @@ within::calls_behind-returns-clause-made t c =
 
 -- ---- a function
 
-pub within::call_behind-returns-then-not-is_named-clause-made : goal.within::call_behind-returns-then-not-is_named-clause-made
-within::call_behind-returns-then-not-is_named-clause-made t c =
+pub within::call_behind-returns-then-not-takes-clause-made : goal.within::call_behind-returns-then-not-takes-clause-made
+within::call_behind-returns-then-not-takes-clause-made t c =
     let w = c.args.walk.now in
     let f = c.args.call.now in
     let same : c.in_ok-own.own ≡ f = c.in_ok-own.ensures.cases in
-    let none : is_named w.functions.now f.function ≡ false = ap (is_named w.functions.now) (sym c.function-function.ensures) ∙ sym c.is_named.ensures ∙ c.if-not-is_named.true in
-    call_left (most_of w) (going_by w) w.functions.now c.args.has_acted.now f (subst IsCall same c.pieces.ensures.lawful) none
+    call_left (most_of w) (going_by w) w.functions.now c.args.has_acted.now f (subst IsCall same c.pieces.ensures.lawful) (sym c.takes.ensures ∙ c.if-not-takes.true)
     ∙ ap (λ (x : Call). so_far x c.args.has_acted.now) (sym same)
 
 pub within::call_behind-loop-part-init : goal.within::call_behind-loop-part-init
