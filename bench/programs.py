@@ -2,6 +2,8 @@
 
 A text means the same in both programs. It is always the same text: what looks random comes from a generator with a fixed seed.
 """
+import itertools
+import math
 import random
 
 
@@ -145,6 +147,36 @@ def ordering(file):
     plain(";", "repeat id A*B = B*A + 1;", ".end")(file)
 
 
+def dense(file):
+    """The product of two polynomials in four symbols that have all terms up to degree 12."""
+    seeded, factors = random.Random(19), []
+    for _ in range(2):
+        terms = []
+        for w, x, y, z in itertools.product(range(13), repeat=4):
+            if w + x + y + z <= 12:
+                terms.append(f"{seeded.randrange(1, 10)}*w^{w}*x^{x}*y^{y}*z^{z}")
+        factors.append("(" + "\n  + ".join(terms) + ")")
+    plain("Symbols w,x,y,z;", "Local F = " + "\n  * ".join(factors) + ";", ".end")(file)
+
+
+RAISED = "(f(1,x) - f(2,y) + 3*f(a,4) + f(x+y,5) + f(b))^5*(g(a) + g(y) - 2*g(x,b))^3*(x - y + a/2 + b)^3"
+
+
+def quartic(file):
+    """The invariants of a binary quartic and its discriminant, whose coefficients become those under a linear substitution."""
+    ids = []
+    for new in range(5):
+        terms = []
+        for old in range(5):
+            for from_x in range(max(0, new - old), min(4 - old, new) + 1):
+                from_y = new - from_x
+                times = math.comb(4, old) * math.comb(4 - old, from_x) * math.comb(old, from_y)
+                terms.append(f"{times}/{math.comb(4, new)}*b{old}*p^{4 - old - from_x}*q^{from_x}*r^{old - from_y}*s^{from_y}")
+        ids.append(f"id a{new} = {' + '.join(terms)};")
+    first = ["Symbols a0,a1,a2,a3,a4,b0,b1,b2,b3,b4,p,q,r,s;", "Local I = a0*a4 - 4*a1*a3 + 3*a2^2;", "Local J = a0*a2*a4 - a0*a3^2 - a1^2*a4 + 2*a1*a2*a3 - a2^3;"]
+    plain(*first, ".sort", "Local D = I^3 - 27*J^2;", ".sort", *ids, ".end")(file)
+
+
 ALL = [
     Program("product", "a product of ten sums of four to six terms over ten symbols", 4_608_000, product),
     Program("modules", "the same, one sum a module", 869_350, modules),
@@ -152,12 +184,15 @@ ALL = [
     Program("printed_sum", "the same, printed", 300_000, lambda file: literal_sum(file, printed=True)),
     Program("power_five", "a sum of five terms to the ninth, printed", 5 ** 9, plain("Symbols a,b,c,d,e;", "Local F = (a + 2*b - 3*c + d/2 - e)^9;", "Print;", ".end")),
     Program("past_the_limit", "(x+y)^1000, refused after 10,000,000 terms", 10_000_000, plain("Symbols x,y;", "Local F = (x+y)^1000;", ".end"), status=4, in_form=False),
+    Program("raised", "powers of sums of functions with arguments, and of symbols", 5 ** 5 * 3 ** 3 * 4 ** 3, plain("Symbols a,b,x,y;", "CFunctions f,g;", f"Local F = {RAISED};", ".end")),
+    Program("dense", "the product of two polynomials in four symbols with all terms up to degree 12", 1820 ** 2, dense),
     Program("functions", "a product of ten sums of functions with arguments, and of words", 4 ** 5 * 3 ** 5, functions),
     Program("loop", "a loop of the preprocessor with 40,000 turns", 40_000, LOOP),
     Program("patterns", "three ids with wildcards over 25,000 terms of ten factors", None, patterns),
     Program("fields", "an id with two fields over 20,000 terms with functions of eight arguments", None, fields),
     Program("words", "six ids that exchange two functions in 20,000 words of eight", None, words),
     Program("dot_products", "three ids that put sums in the place of dot products in 10,000 terms", None, dot_products),
+    Program("quartic", "five ids that put sums in the place of a quartic's coefficients in its invariants and its discriminant", None, quartic),
     Program("multiplied", "16 terms multiplied six times by a sum of eight", 16 * 8 ** 6, multiplied),
     Program("asked", "16 powers, of which a condition chooses 13, whose symbols become sums one by one, times a sum", 3 * (2 ** 13 * 3 + 2 ** 14 * 3 + 2 ** 15 * 3 + 2 ** 16 * 4 + 3), asked),
     Program("ordering", "8,000 words of ten functions that don't commute, brought into normal order", None, ordering),

@@ -54,5 +54,6 @@ pub use expansion::{Expansion, expand_tree, whole_list};
 pub use fixed::fixed_list;
 pub use paired::{Paired, pair, times_list};
 pub use row::{Part, Row, Run};
+pub use single::call_list;
 pub use stored::{Standing, Stored};
 pub use whole::Whole;

@@ -52,6 +52,10 @@ module _ (j : JoinedTerm) (old new : List JoinedTerm) where
 
 -- ---- each of some factors
 
+pub behind_nothing : (made : Option (List JoinedTerm)) → behind [] made ≡ made
+behind_nothing None = refl
+behind_nothing (Some js) = refl
+
 further : (old new : List JoinedTerm) (a b : Option (List JoinedTerm)) → behind old a ≡ Some new → behind old (append_if a b) ≡ behind new b
 further old new (Some xs) (Some ys) e = ap (λ (l : List JoinedTerm). Some l) (sym (append_assoc old xs ys) ∙ ap (λ (l : List JoinedTerm). l ++ ys) (some_is e))
 further old new (Some xs) None e = refl
@@ -64,6 +68,11 @@ row_added j fronts rest ks old new is e = ap (λ (js : List JoinedTerm). behind 
 pub all_added : (rest ks made : List JoinedTerm) → length rest ≡ 0 → behind made (paired rest ks) ≡ Some made
 unfolding paired
 all_added rest ks made e = ap (λ (js : List JoinedTerm). behind made (paired js ks)) (nil_from_length rest e) ∙ ap (λ (l : List JoinedTerm). Some l) (append-nil made)
+
+pub one_front : (j : JoinedTerm) (ks old new : List JoinedTerm) → old ≡ [] → behind old (times_each j ks) ≡ Some new → paired (j ∷ []) ks ≡ Some new
+one_front j ks old new none e =
+    sym (behind_nothing (paired (j ∷ []) ks)) ∙ ap (λ (js : List JoinedTerm). behind js (paired (j ∷ []) ks)) (sym none)
+    ∙ row_added j (j ∷ []) [] ks old new refl e ∙ all_added [] ks new refl
 
 pub of_parts : (old new : List JoinedTerm) (front j : JoinedTerm) (list others : List Monomial) (last : Monomial) → j ≡ front → list ≡ others ++ last ∷ []
     → behind old (times_each j (singles (others ++ last ∷ []))) ≡ Some new → behind old (times_each front (singles list)) ≡ Some new

@@ -4,4 +4,4 @@
 pub mod laws;
 mod products;
 
-pub use products::{joined_singles, times_joined, times_list};
+pub use products::{Factors, joined_singles, times_joined, times_list};

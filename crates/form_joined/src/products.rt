@@ -11,6 +11,7 @@ use form_gathered::JoinedTerm;
 use form_normal::{ProductError, product, product_onto};
 use form_term::Monomial;
 use std::alloc::{AllocError, Global};
+use std::marker::Model;
 
 /// For so many products there is room at first.
 const MOST_AT_FIRST: usize = 4096;
@@ -21,6 +22,47 @@ struct Factor {
     item: Monomial,
     weight: Weight,
     count: u64,
+}
+
+/// Joined terms as factors, in a clause their list.
+#[derive(Drop)]
+pub struct Factors {
+    items: Vec<Factor>,
+}
+
+impl Model for Factors {
+    ghost use Rattle.std.specs.Prelude.{List, map};
+    ghost use Rattle.form_gathered.specs.declared.joined.JoinedTerm.{JoinedTerm};
+    ghost use Rattle.form_joined.specs.Adding.{joined_of};
+
+    ghost Value = { List JoinedTerm };
+
+    ghost view = { λ f. map joined_of f.items.items };
+}
+
+impl Factors {
+    pub fn new(alloc: Global, terms: &[JoinedTerm]) -> Result<Factors, AllocError>
+        ensures { IfOk result (λ made. made ≡ terms.now) }
+    {
+        Ok(Factors {
+            items: factors_of(alloc, terms)?,
+        })
+    }
+
+    /// A joined term times each of them. None where a product is refused, or a weight or a count is out of range.
+    pub fn times(
+        &self,
+        alloc: Global,
+        front: JoinedTerm,
+    ) -> Result<Option<Vec<JoinedTerm>>, AllocError>
+        ensures { IfOk result (λ made. IfSome made (λ all. paired (front ∷ []) self.now ≡ Some all.items)) }
+    {
+        let mut made = with_room(alloc, 1, self.items.len())?;
+        if !add_joined(alloc, front, &self.items, &mut made)? {
+            return Ok(None);
+        }
+        Ok(Some(made))
+    }
 }
 
 /// Each of these times each of a list. None where a product is refused, or a weight or a count is out of range.

@@ -8,9 +8,11 @@ pub mod Coming
 pub mod Ended
 pub mod Heaps
 pub mod Inputs
+pub mod Known
 pub mod Leaves
 pub mod Linear
 pub mod Marked
+pub mod OnTerms
 pub mod Parting
 pub mod Rows
 pub mod Running

@@ -1,11 +1,10 @@
 -- Statements that don't ask for the coefficient make of c times a term what they make of the term, with c times its coefficients.
-use Rattle.std.proofs.Common.{◌≡◌, ℕ, suc, Bool, true, false, if◌then◌else◌, List, [], ◌∷◌, ◌++◌, map, Option, Some, None, IfSome, option_map, Result, Ok, Err, inl, refl, sym, subst, ◌∙◌, rules}
+use Rattle.std.proofs.Common.{◌≡◌, ℕ, suc, Bool, true, false, if◌then◌else◌, List, [], ◌∷◌, ◌++◌, map, Option, Some, None, IfSome, option_map, Result, Ok, Err, inl, refl, sym, subst, ◌∙◌}
 use Rattle.std.specs.Prelude.{All, pos}
 use Rattle.std.specs.List.{AllByRecursion, flat_map}
 use Rattle.std.proofs.lemmas.List.Elements.{All-head, All-tail}
 use Rattle.form_ast.specs.declared.statement.Side.{Side}
 use Rattle.form_ast.specs.declared.statement.Side.TheVariants as sides
-use Rattle.form_base.specs.declared.block.Action.{the_lemmas}
 use Rattle.form_base.specs.declared.block.Action.TheVariants as acting
 use Rattle.form_base.specs.declared.block.Branch.{Branch}
 use Rattle.form_base.specs.declared.cause.Cause.{Cause}
@@ -36,8 +35,9 @@ use Rattle.form_flow.specs.Rewriting.{Rest, behind_first, list_of_rest, rest_of,
 use Rattle.form_flow.specs.Statement.{Chosen, Compiled, Limits, Statement}
 use Rattle.form_flow.specs.Statements.{action, branch_by, first_branch, leaf, multiplied, or_unchanged, outputs, run, summed_over}
 use Rattle.form_flow.proofs.Acting.{of_plain, of_repeat, of_choose, of_within}
-use Rattle.form_levels.specs.Linear.{Agree, AgreeListing, AreLinear, IsIndifferent, conditions_on_term, scaled, scaled_list, scaled_outcome, scaled_output}
+use Rattle.form_levels.specs.Linear.{Agree, AgreeListing, AreLinear, IsIndifferent, IsLinear, conditions_on_term, scaled, scaled_list, scaled_outcome, scaled_output}
 use Rattle.form_levels.proofs.Agreeing.{IsScaled, IsScaledList, changed_agree, each_becomes}
+use Rattle.form_levels.proofs.OnTerms.{branch_conditions, conditions_choose, conditions_repeat}
 use Rattle.form_levels.proofs.ScaledLists.{alone_scaled, before_list_scaled, behind_list_scaled, followed_scaled, limited_scaled, row_scaled}
 use Rattle.form_levels.proofs.Scaling.{BranchScales, Scales, branches_scale, made_scaled, row_scales, turns_scale}
 
@@ -111,16 +111,6 @@ module _ (c : Fraction) where
     abbrev IsScaling : Statement → Type 0
     IsScaling a = AreIndifferent (conditions_on_term a) → Scales c (action at a)
 
-    conditions_repeat : (b : List Statement) → conditions_on_term (acting.Repeat b) ≡ in_row (map conditions_on_term b)
-    conditions_repeat b = search (rules, the_lemmas)
-
-    abbrev branch_conditions : Chosen → Branch Choice (List (List Choice))
-    branch_conditions b = record { condition = b.condition; block = map conditions_on_term b.block }
-
-    conditions_choose : (bs : List Chosen) (last : Option (List Statement))
-        → conditions_on_term (acting.Choose bs last) ≡ flat_map (λ b. b.condition ∷ in_row b.block) (map branch_conditions bs) ++ in_last (option_map (map conditions_on_term) last)
-    conditions_choose bs last = search (rules, the_lemmas)
-
     acts_scale : (b : List Statement) → All IsScaling b → AllByRecursion (λ a. AreIndifferent (conditions_on_term a)) b → AllByRecursion (Scales c) (map (action at) b)
     acts_scale [] h k = tt
     acts_scale (a ∷ b) h k = (All-head IsScaling a b h k.0, acts_scale b (All-tail IsScaling a b h) k.1)
@@ -177,9 +167,7 @@ module _ (c : Fraction) where
 
   run_scales : (at : Limits) (ss : List Statement) → AreLinear ss → Scales c (run at ss)
   run_scales at ss linear =
-      row_scales c (map (action at) ss)
-      (each_map (λ (a : Statement). AreIndifferent (conditions_on_term a)) (Scales c) (action at) (statement_scales at) ss
-      (flat_each (λ (a : Statement). AreIndifferent (conditions_on_term a)) IsIndifferent conditions_on_term (λ a h. h) ss linear))
+      row_scales c (map (action at) ss) (each_map IsLinear (Scales c) (action at) (statement_scales at) ss linear)
 
   pub run_linear : (at : Limits) (ss : List Statement) (m : Monomial) → AreLinear ss → Agree (scaled_outcome c (run at ss m)) (run at ss (scaled c m))
   run_linear at ss m linear =

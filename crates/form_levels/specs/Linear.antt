@@ -1,5 +1,5 @@
 -- Linear statements: what they make of a term with c times its coefficient.
-use Rattle.std.specs.Prelude.{◌≡◌, ◌⊎◌, false, List, [], map, flat_map, length, take, Some}
+use Rattle.std.specs.Prelude.{◌≡◌, ◌⊎◌, false, List, [], map, length, take, Some}
 use Rattle.std.specs.List.{AllByRecursion}
 use Rattle.form_base.specs.declared.block.Action.TheFolds.{fold-Action}
 use Rattle.form_base.specs.declared.block.Action.TheOpen.{Action-F}
@@ -13,7 +13,7 @@ use Rattle.form_term.specs.declared.monomial.Monomial.{Monomial}
 use Rattle.form_flow.specs.declared.compiled.ReadyLeaf.{ReadyLeaf}
 use Rattle.form_flow.specs.Outcome.{Outcome, Output, refused}
 use Rattle.form_flow.specs.Ready.{Choice}
-use Rattle.form_flow.specs.Statement.{Statement}
+use Rattle.form_flow.specs.Statement.{Chosen, Statement}
 use Rattle.form_levels.specs.Asks.{asks_coefficient}
 
 -- ---- which statements
@@ -30,8 +30,14 @@ abbrev pub IsIndifferent : Choice → Type 0
 IsIndifferent q = asks_coefficient q.condition ≡ false
 
 -- Statements are linear where none of these conditions asks for the coefficient.
+abbrev pub IsLinear : Statement → Type 0
+IsLinear s = AllByRecursion IsIndifferent (conditions_on_term s)
+
 abbrev pub AreLinear : List Statement → Type 0
-AreLinear ss = AllByRecursion IsIndifferent (flat_map conditions_on_term ss)
+AreLinear ss = AllByRecursion IsLinear ss
+
+abbrev pub IsLinearBranch : Chosen → Type 0
+IsLinearBranch b = IsIndifferent b.condition × AreLinear b.block
 
 -- ---- what comes of c times a term
 

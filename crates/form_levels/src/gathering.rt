@@ -1,19 +1,28 @@
 //! Whether statements are carried out level by level. What is answered decides how long they take and nothing else.
+ghost use Rattle.std.specs.Prelude.{IfSome};
+ghost use Rattle.std.specs.Bool.{OnTrue};
+ghost use Rattle.std.specs.List.{AllByRecursion};
+ghost use Rattle.form_levels.specs.Linear.{AreLinear, IsLinear, IsLinearBranch};
+
 use crate::asking::asks_coefficient;
 use form_ast::Side;
-use form_flow::{CompiledModule, ReadyAction, ReadyLeaf};
+use form_flow::{CompiledModule, ReadyAction, ReadyBlock, ReadyBranch, ReadyLeaf};
 use form_term::Monomial;
 use form_tree::{IndexName, Name, PatternPiece};
 
 /// Whether all statements can be carried out level by level, and equal terms are likely to meet on the way.
-pub fn gathers(compiled: &CompiledModule) -> bool {
+pub(crate) fn gathers(compiled: &CompiledModule) -> bool
+    ensures { OnTrue result (AreLinear compiled.now.statements) }
+{
     let block = compiled.block().as_slice();
     let limit = compiled.limit();
     are_known(block, limit) && meet(block, limit)
 }
 
 #[cycle(known)]
-fn are_known(block: &[ReadyAction], limit: u64) -> bool {
+fn are_known(block: &[ReadyAction], limit: u64) -> bool
+    ensures { OnTrue result (AreLinear block.now) }
+{
     for action in block {
         if !is_known(action, limit) {
             return false;
@@ -23,24 +32,38 @@ fn are_known(block: &[ReadyAction], limit: u64) -> bool {
 }
 
 #[cycle(known)]
-fn is_known(action: &ReadyAction, limit: u64) -> bool {
+fn is_known(action: &ReadyAction, limit: u64) -> bool
+    ensures { OnTrue result (IsLinear action.now) }
+{
     match action {
         ReadyAction::Plain(leaf) => is_known_leaf(leaf, limit),
         ReadyAction::Repeat(block) => are_known(block.as_slice(), limit),
         ReadyAction::Choose(branches, last) => {
-            for branch in branches.as_slice() {
-                if asks_coefficient(&branch.condition)
-                    || !are_known(branch.block.as_slice(), limit)
-                {
-                    return false;
-                }
-            }
-            match last {
-                Some(block) => are_known(block.as_slice(), limit),
-                None => true,
-            }
+            are_branches_known(branches.as_slice(), limit) && is_last_known(last, limit)
         }
         ReadyAction::Within(_, _) => false,
+    }
+}
+
+#[cycle(known)]
+fn are_branches_known(branches: &[ReadyBranch], limit: u64) -> bool
+    ensures { OnTrue result (AllByRecursion IsLinearBranch branches.now) }
+{
+    for branch in branches {
+        if asks_coefficient(&branch.condition) || !are_known(branch.block.as_slice(), limit) {
+            return false;
+        }
+    }
+    true
+}
+
+#[cycle(known)]
+fn is_last_known(last: &Option<ReadyBlock>, limit: u64) -> bool
+    ensures { OnTrue result (IfSome last.now AreLinear) }
+{
+    match last {
+        Some(block) => are_known(block.as_slice(), limit),
+        None => true,
     }
 }
 

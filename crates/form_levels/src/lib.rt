@@ -20,6 +20,5 @@ mod outputs;
 mod pace;
 mod rewriting;
 
-pub use gathering::gathers;
 pub use outputs::joined_outputs;
 pub use pace::Pace;

@@ -12,9 +12,27 @@ use form_gathered::{JoinedTerm, counted, joined_inputs};
 use form_term::Monomial;
 use std::alloc::{AllocError, Global};
 
-/// What a module's statements make of inputs, joined; none where it isn't certain that no input is refused and that none has too
-/// many outputs.
+/// What a module's statements make of a batch of inputs, joined; none where that gained nothing lately, or where it isn't certain
+/// that no input is refused and that none has too many outputs.
 pub fn joined_outputs(
+    alloc: Global,
+    compiled: &CompiledModule,
+    inputs: &[Monomial],
+    pace: &mut Pace,
+) -> Result<Option<Vec<JoinedTerm>>, AllocError>
+    ensures { IfOk result (λ made. IfSome made (λ outputs. HasOutputs compiled.now inputs.now outputs.items)) }
+{
+    if !pace.is_likely() {
+        pace.end_batch(true);
+        return Ok(None);
+    }
+    let outputs = batch_outputs(alloc, compiled, inputs, pace)?;
+    pace.end_batch(outputs.is_some());
+    Ok(outputs)
+}
+
+/// The same where a batch of them is likely to gain.
+fn batch_outputs(
     alloc: Global,
     compiled: &CompiledModule,
     inputs: &[Monomial],

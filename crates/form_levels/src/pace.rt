@@ -1,6 +1,10 @@
 //! How many inputs are carried out at once, and whether equal terms are brought together: by what was gained lately. What is
 //! carried out is right whatever is answered here.
-ghost use Rattle.std.specs.Prelude.{◌<◌};
+ghost use Rattle.std.specs.Prelude.{◌<◌, IfSome};
+ghost use Rattle.form_levels.specs.Linear.{AreLinear};
+
+use crate::gathering::gathers;
+use form_flow::CompiledModule;
 
 /// What batches gained lately by being carried out level by level.
 #[derive(Drop)]
@@ -34,8 +38,15 @@ const MOST: usize = 4096;
 const MANY: u64 = 100_000;
 
 impl Pace {
-    pub fn new() -> Pace {
-        Pace {
+    /// That of statements that can be carried out level by level; none where one can't be, or where equal terms aren't likely to
+    /// meet on the way.
+    pub fn of(compiled: &CompiledModule) -> Option<Pace>
+        ensures { IfSome result (λ _. AreLinear compiled.now.statements) }
+    {
+        if !gathers(compiled) {
+            return None;
+        }
+        Some(Pace {
             made: 0,
             added: 0,
             left: 0,
@@ -43,11 +54,11 @@ impl Pace {
             size: FIRST,
             before: u64::MAX,
             is_settled: false,
-        }
+        })
     }
 
     /// Whether terms are brought together in this batch.
-    pub fn is_likely(&self) -> bool {
+    pub(crate) fn is_likely(&self) -> bool {
         self.resting == 0
     }
 
@@ -59,22 +70,22 @@ impl Pace {
     }
 
     /// How many terms were made of the batch.
-    pub fn made(&self) -> u64 {
+    pub(crate) fn made(&self) -> u64 {
         self.made
     }
 
     /// A batch begins.
-    pub fn begin_batch(&mut self) {
+    pub(crate) fn begin_batch(&mut self) {
         self.made = 0;
     }
 
     /// So many terms more were made of the batch.
-    pub fn count(&mut self, made: u64) {
+    pub(crate) fn count(&mut self, made: u64) {
         self.made = self.made.saturating_add(made);
     }
 
     /// So many terms were brought together, and so many are left of them.
-    pub fn note(&mut self, added: u64, left: u64) {
+    pub(crate) fn note(&mut self, added: u64, left: u64) {
         if self.added > LATELY {
             self.added /= 2;
             self.left /= 2;
@@ -84,7 +95,7 @@ impl Pace {
     }
 
     /// A batch ends; whether all of it was certain.
-    pub fn end_batch(&mut self, is_certain: bool) {
+    pub(crate) fn end_batch(&mut self, is_certain: bool) {
         if !is_certain {
             self.shrink();
             return;

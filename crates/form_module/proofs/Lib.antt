@@ -9,6 +9,7 @@ pub mod Placed
 pub mod Recordable
 pub mod Reported
 pub mod Settling
+pub mod Sided
 pub mod Sound
 pub mod Stays
 pub mod Summed

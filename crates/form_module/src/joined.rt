@@ -1,25 +1,87 @@
 //! Results that are found with equal terms joined on the way.
-ghost use Rattle.std.specs.Prelude.{[], ◌∷◌, None, IfOk, IfSome};
+ghost use Rattle.std.specs.Prelude.{◌≡◌, [], ◌∷◌, ℕ, Option, None, Ok, IfOk, IfSome};
+ghost use Rattle.form_expand.specs.Expanding.{list_of_sum};
 ghost use Rattle.form_flow.specs.Left.{outputs_left};
 ghost use Rattle.form_flow.specs.Statements.{outputs as outputs_of};
-ghost use Rattle.form_levels.specs.Outputs.{HasOutputs};
-ghost use Rattle.form_module.specs.Inputs.{inputs_left};
-ghost use Rattle.form_module.specs.Module.{collected_list, result_of as result_meant, through};
+ghost use Rattle.form_module.specs.Inputs.{IsTreeOf, inputs_left, inputs_of};
+ghost use Rattle.form_module.specs.Module.{collected_list, result_of as result_meant, through, within};
+ghost use Rattle.form_module.specs.Places.{right_side_by};
 ghost use Rattle.form_module.specs.Summed.{AreAddedIf, AreTogetherIf, GivesIfAny, IsPut};
+ghost use Rattle.form_sides.specs.Collected.{HasTerms};
+ghost use Rattle.form_tree.specs.Tree.{Sum, pieces_of_sum};
 
 use crate::inputs::{Batch, BatchEnd, Inputs, next_batch};
+use crate::result::pass_all;
 use crate::result_error::ResultError;
+use crate::works::right_side;
 use form_base::{Cause, Settings};
+use form_check::Checked;
 use form_collect::Terms;
+use form_expand::Standing;
 use form_flow::{CompiledModule, Outputs};
 use form_gathered::laws::joined_lists;
 use form_gathered::{Joined, JoinedTerm};
 use form_levels::{Pace, joined_outputs};
+use form_sides::gains_by_joining;
 use form_term::Monomial;
+use form_tree::Piece;
 use std::alloc::{AllocError, Global};
 
-/// The result of inputs, where it is found with equal terms joined on the way; none where sums aren't surely in range in
-/// whatever order they are made.
+/// The result of a definition whose terms no statement changes, where its right side is joined; none where that isn't likely to
+/// gain anything, or where it isn't certain that nothing is refused.
+pub fn joined_sum(
+    alloc: Global,
+    settings: &Settings,
+    statements: &[Checked],
+    compiled: &CompiledModule,
+    standing: &Standing,
+    place: Option<usize>,
+) -> Result<Option<Terms>, ResultError>
+    requires { compiled.now.limits.terms ≡ settings.now.max_expand }
+    ensures { (expression : ℕ) (tree : Option Sum) → IsTreeOf (right_side_by statements.now place) tree →
+        GivesIfAny result (result_meant settings.now.max_terms compiled.now (inputs_of settings.now.max_expand standing.now expression tree)) }
+{
+    let Some(place) = place else {
+        return Ok(None);
+    };
+    if !pass_all(compiled, settings.max_expand) {
+        return Ok(None);
+    }
+    let tree = right_side(statements, place);
+    match collected_side(alloc, tree, settings.max_expand, standing)? {
+        Some(terms) => few_enough(settings.max_terms, terms),
+        None => Ok(None),
+    }
+}
+
+/// What the list of a right side collects to, joined.
+fn collected_side(
+    alloc: Global,
+    tree: &[Piece],
+    limit: u64,
+    standing: &Standing,
+) -> Result<Option<Terms>, AllocError>
+    ensures { (s : Sum) → tree.now ≡ pieces_of_sum s →
+        IfOk result (λ made. IfSome made (HasTerms (list_of_sum limit standing.now s))) }
+{
+    if !gains_by_joining(tree, standing) {
+        return Ok(None);
+    }
+    form_sides::joined_terms(alloc, tree, limit, standing)
+}
+
+/// Terms of a result, unless they are more than so many.
+fn few_enough(most: u64, terms: Terms) -> Result<Option<Terms>, ResultError>
+    ensures { GivesIfAny result (within most (Ok terms)) }
+{
+    if terms.as_slice().len() as u64 > most {
+        return Err(ResultError::Refused(Cause::TermLimit));
+    }
+    Ok(Some(terms))
+}
+
+/// The result of inputs, where it is found with equal terms joined on the way; none where that isn't likely to gain, or where sums
+/// aren't surely in range in whatever order they are made.
 pub fn joined_result(
     alloc: Global,
     settings: &Settings,
@@ -28,13 +90,13 @@ pub fn joined_result(
 ) -> Result<Option<Terms>, ResultError>
     ensures { GivesIfAny result (result_meant settings.now.max_terms statements.now (inputs_left inputs.old)) }
 {
-    let Some(terms) = joined_terms(alloc, statements, inputs)? else {
+    let Some(mut pace) = Pace::of(statements) else {
         return Ok(None);
     };
-    if terms.as_slice().len() as u64 > settings.max_terms {
-        return Err(ResultError::Refused(Cause::TermLimit));
+    match joined_terms(alloc, statements, inputs, &mut pace)? {
+        Some(terms) => few_enough(settings.max_terms, terms),
+        None => Ok(None),
     }
-    Ok(Some(terms))
 }
 
 /// What the statements make of inputs comes to; none where it doesn't join.
@@ -42,11 +104,12 @@ fn joined_terms(
     alloc: Global,
     statements: &CompiledModule,
     inputs: &mut Inputs,
+    pace: &mut Pace,
 ) -> Result<Option<Terms>, ResultError>
     ensures { GivesIfAny result (collected_list (through (outputs_of statements.now) (inputs_left inputs.old))) }
 {
     let mut table = Joined::new(alloc);
-    if !add_inputs(alloc, statements, inputs, &mut table)? {
+    if !add_inputs(alloc, statements, inputs, pace, &mut table)? {
         return Ok(None);
     }
     Ok(Some(table.into_terms()?))
@@ -57,14 +120,14 @@ fn add_inputs(
     alloc: Global,
     statements: &CompiledModule,
     inputs: &mut Inputs,
+    pace: &mut Pace,
     table: &mut Joined,
 ) -> Result<bool, ResultError>
     ensures { IsPut (through (outputs_of statements.now) (inputs_left inputs.old)) table.old table.new result }
 {
-    let mut pace = Pace::new();
     'batches: loop {
         let Batch { items, end } = next_batch(alloc, inputs, pace.size())?;
-        if !add_batch(alloc, statements, &items, &mut pace, table)? {
+        if !add_batch(alloc, statements, &items, pace, table)? {
             return Ok(false);
         }
         match end {
@@ -86,7 +149,7 @@ fn add_batch(
 ) -> Result<bool, ResultError>
     ensures { IsPut (through (outputs_of statements.now) (record { terms = items.now; end = None })) table.old table.new result }
 {
-    if let Some(outputs) = tried(alloc, statements, items, pace)? {
+    if let Some(outputs) = joined_outputs(alloc, statements, items, pace)? {
         return Ok(add_joined(table, outputs)?);
     }
     if items.len() > pace.size() {
@@ -126,28 +189,10 @@ fn add_part(
 ) -> Result<bool, ResultError>
     ensures { IsPut (through (outputs_of statements.now) (record { terms = items.now; end = None })) table.old table.new result }
 {
-    match tried(alloc, statements, items, pace)? {
+    match joined_outputs(alloc, statements, items, pace)? {
         Some(outputs) => Ok(add_joined(table, outputs)?),
         None => add_one_by_one(alloc, statements, items, table),
     }
-}
-
-/// What the statements make of these inputs together; none where that gained nothing lately, or isn't certain.
-fn tried(
-    alloc: Global,
-    statements: &CompiledModule,
-    items: &[Monomial],
-    pace: &mut Pace,
-) -> Result<Option<Vec<JoinedTerm>>, AllocError>
-    ensures { IfOk result (λ made. IfSome made (λ outputs. HasOutputs statements.now items.now outputs.items)) }
-{
-    if !pace.is_likely() {
-        pace.end_batch(true);
-        return Ok(None);
-    }
-    let outputs = joined_outputs(alloc, statements, items, pace)?;
-    pace.end_batch(outputs.is_some());
-    Ok(outputs)
 }
 
 /// Adds joined terms. Answers false where they don't join.

@@ -12,7 +12,7 @@ ghost use Rattle.form_tree.specs.Tree.{Sum};
 
 use crate::carry_error::CarryError;
 use crate::expression_set::{ExpressionSet, changed};
-use crate::joined::joined_result;
+use crate::joined::{joined_result, joined_sum};
 use crate::result::result_of;
 use crate::result_error::ResultError;
 use crate::settled::{are_at_rest, comes_out_alike};
@@ -22,7 +22,6 @@ use form_check::{Checked, Module};
 use form_collect::Terms;
 use form_expand::{Standing, Stored};
 use form_flow::CompiledModule;
-use form_levels::gathers;
 use form_tree::laws::trees_are_built;
 use std::alloc::{AllocError, Global};
 use std::collections::BTreeMap;
@@ -74,14 +73,13 @@ fn carry_out(
 {
     trees_are_built();
     let most = settings.max_terms;
-    let may_join = gathers(compiled);
     let mut results = Vec::new(alloc);
     for (expression, place) in works {
         if comes_out_alike(is_at_rest, most, standing, expression, place) {
             continue;
         }
         match carried(
-            alloc, settings, statements, compiled, may_join, standing, expression, place,
+            alloc, settings, statements, compiled, standing, expression, place,
         ) {
             Ok(terms) => results.push(Stored { expression, terms })?,
             Err(error) => return Err(error.at(expression)),
@@ -96,7 +94,6 @@ fn carried(
     settings: &Settings,
     statements: &[Checked],
     compiled: &CompiledModule,
-    may_join: bool,
     standing: &Standing,
     expression: Id,
     place: Option<usize>,
@@ -106,11 +103,12 @@ fn carried(
         Gives (λ terms. terms) result (result_meant settings.now.max_terms compiled.now (inputs_of settings.now.max_expand standing.now expression tree)) }
 {
     let max_expand = settings.max_expand;
-    if may_join {
-        let mut first = inputs(alloc, max_expand, statements, standing, expression, place);
-        if let Some(terms) = joined_result(alloc, settings, compiled, &mut first)? {
-            return Ok(terms);
-        }
+    if let Some(sum) = joined_sum(alloc, settings, statements, compiled, standing, place)? {
+        return Ok(sum);
+    }
+    let mut first = inputs(alloc, max_expand, statements, standing, expression, place);
+    if let Some(terms) = joined_result(alloc, settings, compiled, &mut first)? {
+        return Ok(terms);
     }
     let mut anew = inputs(alloc, max_expand, statements, standing, expression, place);
     result_of(alloc, settings, compiled, &mut anew)

@@ -121,7 +121,7 @@ pub fn inputs<'a>(
 }
 
 /// The right side of the definition that is the statement at a place.
-fn right_side(statements: &[Checked], place: usize) -> &[Piece]
+pub fn right_side(statements: &[Checked], place: usize) -> &[Piece]
     ensures { result.now ≡ right_side_at statements.now place }
 {
     match statements.get(place) {

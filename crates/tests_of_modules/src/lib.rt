@@ -4,6 +4,8 @@
 #[cfg(test)]
 mod carrying;
 #[cfg(test)]
+mod levels;
+#[cfg(test)]
 mod modules;
 #[cfg(test)]
 mod statements;

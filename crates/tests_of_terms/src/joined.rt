@@ -55,7 +55,7 @@ fn table(alloc: Global, list: &[Numbers]) -> Result<Option<Joined>, AllocError> 
     Ok(Some(made))
 }
 
-fn power(symbol: u32, exponent: i32) -> Power {
+pub fn power(symbol: u32, exponent: i32) -> Power {
     Power {
         symbol: Id::new(symbol),
         exponent,
@@ -68,7 +68,7 @@ fn is(term: &JoinedTerm, sum: Frac, weight: Weight, count: u64) -> bool {
 }
 
 /// Whether one of these is of these powers, with this sum, this weight and this count.
-fn has(terms: &[JoinedTerm], powers: &[Power], sum: Frac, weight: Weight, count: u64) -> bool {
+pub fn has(terms: &[JoinedTerm], powers: &[Power], sum: Frac, weight: Weight, count: u64) -> bool {
     for term in terms {
         if term.term.powers() == powers && is(term, sum, weight, count) {
             return true;

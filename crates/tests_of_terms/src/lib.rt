@@ -1,5 +1,5 @@
 //! Tests of the calls on terms: fractions and their weights, coefficients inside arguments, terms, products, conditions, terms that
-//! meet, and lists of right sides.
+//! meet, and lists of right sides, joined ones too.
 #![tactic(auto)]
 
 #[cfg(test)]
@@ -14,6 +14,8 @@ mod joined;
 mod lists;
 #[cfg(test)]
 mod products;
+#[cfg(test)]
+mod sides;
 #[cfg(test)]
 mod terms;
 #[cfg(test)]

@@ -1,4 +1,4 @@
-use Rattle.std.proofs.Common.{◌∷◌, [], false, ap, ◌∙◌, arith}
+use Rattle.std.proofs.Common.{◌∷◌, [], false, ap, ◌∙◌}
 use Rattle.form_flow.specs.Ways.{acts_of, finish, run_each}
 use Rattle.form_flow.proofs.Finishing.{bind_outside, enters}
 use Rattle.form_flow.proofs.path.Path.new.Goals as goal
@@ -9,6 +9,3 @@ returns-clause-begins c act m =
     ap (λ w. finish (w ∷ []) false m) (c.plain-here.ensures.plain act)
     ∙ enters acts [] m
     ∙ bind_outside (run_each acts m)
-
-pub returns-clause-weight : goal.returns-clause-weight
-returns-clause-weight c at = let here = c.plain-here.ensures.weight at in omega (arith, here)

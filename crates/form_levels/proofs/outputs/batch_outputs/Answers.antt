@@ -4,7 +4,7 @@ use Rattle.form_flow.specs.Statements.{run}
 use Rattle.form_gathered.specs.Joined.{counted}
 use Rattle.form_levels.specs.Runs.{Comes}
 use Rattle.form_levels.proofs.Ended.{outputs_had}
-use Rattle.form_levels.proofs.outputs.joined_outputs.Goals as goal
+use Rattle.form_levels.proofs.outputs.batch_outputs.Goals as goal
 
 pub returns : goal.returns
 returns c =

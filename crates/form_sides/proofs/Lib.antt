@@ -1,0 +1,4 @@
+pub mod Arguing
+pub mod OnePiece
+pub mod Pairing
+pub mod Reading

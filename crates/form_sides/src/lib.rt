@@ -1,0 +1,15 @@
+//! The list of a right side with equal terms joined: sums, products and powers of what stands in it, so that each distinct term
+//! of a power or a product of sums is made once. It is answered where it is certain that nothing in it is refused.
+//!
+//! A sum is read product by product, a product factor by factor, and sums in parentheses and arguments of functions by recursion
+//! (`sums`, `pieces`). Fronts are multiplied by the next list as joined terms (`products`). Whether that is likely to gain
+//! anything is seen of the pieces alone (`gains`).
+#![tactic(auto)]
+
+mod gains;
+mod pieces;
+mod products;
+mod sums;
+
+pub use gains::gains_by_joining;
+pub use sums::{joined_list, joined_terms};
