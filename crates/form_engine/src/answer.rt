@@ -8,7 +8,7 @@ use crate::carry::carry_out;
 use crate::stop::Stop;
 use form_base::{Settings, Status};
 use form_check::Program;
-use form_outside::{Sink, SinkErr};
+use form_outside::{Gate, Sink, SinkErr, Store};
 use std::alloc::Global;
 
 /// What a call is to do, as its words and the library's text decide it.
@@ -23,7 +23,13 @@ impl Answer {
     ghost use Rattle.form_engine.specs.Answer.{IsAnswerOutcome, IsSoundAnswer};
 
     /// Carries the program out, or puts the line of the refusal into the sink. Answers the status.
-    pub fn carry_out<O: Sink>(self, alloc: Global, out: &mut O) -> Result<Status, Stop>
+    pub fn carry_out<O: Sink, S: Store + Send, G: Gate + Sync>(
+        self,
+        alloc: Global,
+        out: &mut O,
+        stores: &mut [S],
+        gate: &G,
+    ) -> Result<Status, Stop>
         requires { IsSoundAnswer self }
         ensures carried { (outcome : Outcome) × IsAnswerOutcome self outcome
             × Carries (O.taken out.old) outcome (O.taken out.new) result }
@@ -32,10 +38,11 @@ impl Answer {
         ensures not_risen { result ≢ Err Stop.Sink → O.faults out.new ≡ O.faults out.old }
         ensures never_falls { O.faults out.old ≤ O.faults out.new }
         ensures unfinished { O.is_finished out.new ≡ true → O.is_finished out.old ≡ true }
+        ensures same_stores { stores.new ≡ stores.old }
     {
         match self {
             Answer::Runs(settings, program) => {
-                let ended = carry_out(alloc, &settings, &program, out);
+                let ended = carry_out(alloc, &settings, &program, out, stores, gate);
                 drop(program);
                 ended
             }

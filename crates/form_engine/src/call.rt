@@ -105,19 +105,20 @@ pub fn tform<R: Threads + Wait, L: Library, O: Sink, S: Store + Send, G: Gate + 
 {
     one_outcome();
     let _ = rt;
-    let _ = gate;
-    match run(alloc, words, library, out) {
+    match run(alloc, words, library, out, stores, gate) {
         Ok(status) => status,
         Err(stop) => stop.status(),
     }
 }
 
 /// Decides what is to be written, writes it and finishes.
-fn run<L: Library, O: Sink>(
+fn run<L: Library, O: Sink, S: Store + Send, G: Gate + Sync>(
     alloc: Global,
     words: &[String],
     library: &mut L,
     out: &mut O,
+    stores: &mut [S],
+    gate: &G,
 ) -> Result<Status, Stop>
     requires library_can_count { L.faults library.old ≢ last_count }
     requires sink_can_count { O.faults out.old ≢ last_count }
@@ -142,10 +143,11 @@ fn run<L: Library, O: Sink>(
     ensures finished { OnOk result (O.is_finished out.new ≡ true) }
     ensures unfinished { OnErr result (O.is_finished out.new ≡ true → O.is_finished out.old ≡ true) }
     ensures same_texts { L.texts library.new ≡ L.texts library.old }
+    ensures same_stores { stores.new ≡ stores.old }
 {
     one_outcome();
     let answer = decide(alloc, words, library)?;
-    let status = answer.carry_out(alloc, out)?;
+    let status = answer.carry_out(alloc, out, stores, gate)?;
     finish(alloc, out, status)
 }
 

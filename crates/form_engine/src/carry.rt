@@ -14,16 +14,18 @@ use form_check::{Module, Program};
 use form_expand::Stored;
 use form_module::{ExpressionSet, ModuleError, printed, run_module};
 use form_names::Names;
-use form_outside::{Sink, SinkErr};
+use form_outside::{Gate, Sink, SinkErr, Store};
 use form_print::{print_expression, text_of};
 use std::alloc::Global;
 
 /// Carries out each module and prints what it prints, up to the first that is refused.
-pub fn carry_out<O: Sink>(
+pub fn carry_out<O: Sink, S: Store + Send, G: Gate + Sync>(
     alloc: Global,
     settings: &Settings,
     program: &Program,
     out: &mut O,
+    stores: &mut [S],
+    gate: &G,
 ) -> Result<Status, Stop>
     requires { IsSound program.now }
     ensures carried { (outcome : Outcome) × (outcome ≡ program_outcome settings.now program.now)
@@ -33,10 +35,11 @@ pub fn carry_out<O: Sink>(
     ensures not_risen { result ≢ Err Stop.Sink → O.faults out.new ≡ O.faults out.old }
     ensures never_falls { O.faults out.old ≤ O.faults out.new }
     ensures unfinished { O.is_finished out.new ≡ true → O.is_finished out.old ≡ true }
+    ensures same_stores { stores.new ≡ stores.old }
 {
     let mut standing = Vec::new(alloc);
     for (index, module) in program.modules().iter().enumerate() {
-        match run_module(alloc, settings, program, index, standing) {
+        match run_module(alloc, settings, program, index, standing, stores, gate) {
             Ok(report) => standing = report.into_expressions(),
             Err(error) => return stop_at(alloc, out, error),
         }

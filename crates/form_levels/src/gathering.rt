@@ -14,9 +14,14 @@ use form_tree::{IndexName, Name, PatternPiece};
 pub(crate) fn gathers(compiled: &CompiledModule) -> bool
     ensures { OnTrue result (AreLinear compiled.now.statements) }
 {
-    let block = compiled.block().as_slice();
-    let limit = compiled.limit();
-    are_known(block, limit) && meet(block, limit)
+    go_by_levels(compiled) && meet(compiled.block().as_slice(), compiled.limit())
+}
+
+/// Whether all statements can be carried out level by level.
+pub(crate) fn go_by_levels(compiled: &CompiledModule) -> bool
+    ensures { OnTrue result (AreLinear compiled.now.statements) }
+{
+    are_known(compiled.block().as_slice(), compiled.limit())
 }
 
 #[cycle(known)]

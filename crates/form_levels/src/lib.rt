@@ -20,5 +20,5 @@ mod outputs;
 mod pace;
 mod rewriting;
 
-pub use outputs::joined_outputs;
+pub use outputs::{joined_outputs, outputs_of_joined};
 pub use pace::Pace;

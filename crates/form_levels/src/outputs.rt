@@ -1,13 +1,16 @@
-ghost use Rattle.std.specs.Prelude.{◌≡◌, IfOk, IfSome};
+ghost use Rattle.std.specs.Prelude.{◌≡◌, List, length, map, IfOk, IfSome};
 ghost use Rattle.form_flow.specs.Statements.{action as action_of, run};
+ghost use Rattle.form_gathered.specs.Joined.{HaveSums, IsJoined, alone, counting_one};
 ghost use Rattle.form_levels.specs.Heaps.{limits_of};
 ghost use Rattle.form_levels.specs.Outputs.{HasOutputs};
 ghost use Rattle.form_levels.specs.Runs.{Comes};
+ghost use Rattle.form_term.specs.declared.monomial.Monomial.{Monomial as Input};
 
 use crate::heap::Heap;
 use crate::levels::Levels;
 use crate::pace::Pace;
 use form_flow::{CompiledModule, ReadyAction};
+use form_gathered::laws::sums_of_inputs;
 use form_gathered::{JoinedTerm, counted, joined_inputs};
 use form_term::Monomial;
 use std::alloc::{AllocError, Global};
@@ -26,24 +29,76 @@ pub fn joined_outputs(
         pace.end_batch(true);
         return Ok(None);
     }
-    let outputs = batch_outputs(alloc, compiled, inputs, pace)?;
+    let Some(terms) = joined_inputs(alloc, inputs)? else {
+        pace.end_batch(false);
+        return Ok(None);
+    };
+    outputs_of(alloc, compiled, terms, pace)
+}
+
+/// The same of joined terms: of each list of which they have the sums. As equal ones have met, they go on also where that gained
+/// nothing lately.
+pub fn outputs_of_joined(
+    alloc: Global,
+    compiled: &CompiledModule,
+    inputs: &[JoinedTerm],
+    pace: &mut Pace,
+) -> Result<Option<Vec<JoinedTerm>>, AllocError>
+    ensures { (list : List Input) → HaveSums inputs.now list →
+        IfOk result (λ made. IfSome made (λ outputs. HasOutputs compiled.now list outputs.items)) }
+{
+    sums_of_inputs();
+    outputs_of(alloc, compiled, each_once(alloc, inputs)?, pace)
+}
+
+/// Copies of joined terms that count one each.
+fn each_once(alloc: Global, terms: &[JoinedTerm]) -> Result<Vec<JoinedTerm>, AllocError>
+    ensures { IfOk result (λ all. all.items ≡ map counting_one terms.now) }
+{
+    let mut all = Vec::with_capacity(alloc, terms.len())?;
+    for term in terms {
+        all.push(copy_once(term)?)?;
+    }
+    Ok(all)
+}
+
+fn copy_once(term: &JoinedTerm) -> Result<JoinedTerm, AllocError>
+    ensures { IfOk result (λ copy. copy ≡ counting_one term.now) }
+{
+    Ok(JoinedTerm {
+        term: term.term.clone()?,
+        sum: term.sum,
+        weight: term.weight,
+        count: 1,
+    })
+}
+
+/// What the statements make of a batch of inputs for each of which, as a list, these terms stand.
+fn outputs_of(
+    alloc: Global,
+    compiled: &CompiledModule,
+    terms: Vec<JoinedTerm>,
+    pace: &mut Pace,
+) -> Result<Option<Vec<JoinedTerm>>, AllocError>
+    ensures { (inputs : List Input) → IsJoined (length inputs) terms.items (alone inputs) →
+        IfOk result (λ made. IfSome made (λ outputs. HasOutputs compiled.now inputs outputs.items)) }
+{
+    pace.begin_batch();
+    let outputs = batch_outputs(alloc, compiled, terms, pace)?;
     pace.end_batch(outputs.is_some());
     Ok(outputs)
 }
 
-/// The same where a batch of them is likely to gain.
+/// The same of a batch that was begun.
 fn batch_outputs(
     alloc: Global,
     compiled: &CompiledModule,
-    inputs: &[Monomial],
+    terms: Vec<JoinedTerm>,
     pace: &mut Pace,
 ) -> Result<Option<Vec<JoinedTerm>>, AllocError>
-    ensures { IfOk result (λ made. IfSome made (λ outputs. HasOutputs compiled.now inputs.now outputs.items)) }
+    ensures { (inputs : List Input) → IsJoined (length inputs) terms.items (alone inputs) →
+        IfOk result (λ made. IfSome made (λ outputs. HasOutputs compiled.now inputs outputs.items)) }
 {
-    pace.begin_batch();
-    let Some(terms) = joined_inputs(alloc, inputs)? else {
-        return Ok(None);
-    };
     let levels = Levels { alloc, compiled };
     let Some(outputs) = levels.statements(compiled.block().as_slice(), terms, pace)? else {
         return Ok(None);

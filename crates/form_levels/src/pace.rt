@@ -3,7 +3,7 @@
 ghost use Rattle.std.specs.Prelude.{◌<◌, IfSome};
 ghost use Rattle.form_levels.specs.Linear.{AreLinear};
 
-use crate::gathering::gathers;
+use crate::gathering::{gathers, go_by_levels};
 use form_flow::CompiledModule;
 
 /// What batches gained lately by being carried out level by level.
@@ -46,7 +46,21 @@ impl Pace {
         if !gathers(compiled) {
             return None;
         }
-        Some(Pace {
+        Some(Pace::at_first())
+    }
+
+    /// The same where inputs are joined, so that equal terms have met in any case.
+    pub fn of_joined(compiled: &CompiledModule) -> Option<Pace>
+        ensures { IfSome result (λ _. AreLinear compiled.now.statements) }
+    {
+        if !go_by_levels(compiled) {
+            return None;
+        }
+        Some(Pace::at_first())
+    }
+
+    fn at_first() -> Pace {
+        Pace {
             made: 0,
             added: 0,
             left: 0,
@@ -54,7 +68,7 @@ impl Pace {
             size: FIRST,
             before: u64::MAX,
             is_settled: false,
-        })
+        }
     }
 
     /// Whether terms are brought together in this batch.

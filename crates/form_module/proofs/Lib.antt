@@ -1,4 +1,5 @@
 pub mod Added
+pub mod Batched
 pub mod Becoming
 pub mod Carried
 pub mod Collected

@@ -27,10 +27,10 @@ at_first : (lists : ℕ → List Monomial) (k : ℕ) → k < 1 → IsPermutation
 at_first lists zero lt = IsPermutation-refl (lists 0)
 at_first lists (suc k) lt = absurd (omega (arith, lt))
 
-of_first : (js : List JoinedTerm) (lists : ℕ → List Monomial) → StandFor (HasSum 1) 1 js lists → HaveSums js (lists 0)
+pub of_first : (js : List JoinedTerm) (lists : ℕ → List Monomial) → StandFor (HasSum 1) 1 js lists → HaveSums js (lists 0)
 of_first js lists h = moved (HasSum 1) 1 js lists (λ k. lists 0) (at_first lists) h
 
-regrouped : (p q r s t : List Monomial) → IsPermutation (q ++ r) s → IsPermutation (p ++ s) t → IsPermutation ((p ++ q) ++ r) t
+pub regrouped : (p q r s t : List Monomial) → IsPermutation (q ++ r) s → IsPermutation (p ++ s) t → IsPermutation ((p ++ q) ++ r) t
 regrouped p q r s t h g = IsPermutation-trans ((p ++ q) ++ r) (p ++ s) t (rw (append_assoc p q r) (IsPermutation-append_right p (q ++ r) s h)) g
 
 beside_summed : (js ks : List JoinedTerm) (a b : List Monomial) → HaveSums js a → HaveSums ks b → HaveSums (js ++ ks) (a ++ b)
@@ -70,7 +70,7 @@ by_outputs made left old new r is put = subst (λ (l : Listing). IsPut l old new
 -- ---- inputs that are carried out joined
 
 -- what is made of terms of which none is refused
-through_whole : (go : Monomial → Listing) (ms : List Monomial) → AllByRecursion (λ m. (go m).end ≡ None) ms → through go (all_of ms) ≡ all_of (flat_map (λ m. (go m).terms) ms)
+pub through_whole : (go : Monomial → Listing) (ms : List Monomial) → AllByRecursion (λ m. (go m).end ≡ None) ms → through go (all_of ms) ≡ all_of (flat_map (λ m. (go m).terms) ms)
 unfolding through_each
 through_whole go [] ends = refl
 through_whole go (m ∷ ms) ends =

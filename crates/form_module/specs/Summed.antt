@@ -5,7 +5,10 @@ use Rattle.form_term.specs.declared.monomial.Monomial.{Monomial}
 use Rattle.form_gathered.specs.Joined.{HaveSums}
 use Rattle.form_gathered.specs.declared.joined.JoinedTerm.{JoinedTerm}
 use Rattle.form_expand.specs.Listing.{Listing}
+use Rattle.form_flow.specs.Statement.{Compiled}
+use Rattle.form_flow.specs.Statements.{outputs}
 use Rattle.form_module.specs.Answers.{Adds, IsEndedBy, IsRefused}
+use Rattle.form_module.specs.Module.{collected_list, through}
 use Rattle.form_module.specs.declared.result_error.ResultError.{ResultError}
 
 -- The terms or the refusal that a function answered are what is meant; nothing is said where it answered none, or memory ran
@@ -14,6 +17,10 @@ abbrev pub GivesIfAny : Result (Option (List Monomial)) ResultError → Result (
 GivesIfAny (Ok (Some terms)) meant = meant ≡ Ok terms
 GivesIfAny (Ok None) meant = Unit {0}
 GivesIfAny (Err error) meant = IsRefused error meant
+
+-- what the statements make of a list comes to these terms
+abbrev pub ComesTo : Compiled → Listing → List Monomial → Type 0
+ComesTo c l terms = collected_list (through (outputs c) l) ≡ Ok terms
 
 -- terms were added: whatever list the old joined terms have the sums of, the new ones have those of it with them; where it was
 -- answered that they were

@@ -1,13 +1,15 @@
 //! Results that are found with equal terms joined on the way.
-ghost use Rattle.std.specs.Prelude.{◌≡◌, [], ◌∷◌, ℕ, Option, None, Ok, IfOk, IfSome};
+ghost use Rattle.std.specs.Prelude.{◌≡◌, [], ◌∷◌, ℕ, List, Option, None, Ok, IfOk, IfSome};
 ghost use Rattle.form_expand.specs.Expanding.{list_of_sum};
 ghost use Rattle.form_flow.specs.Left.{outputs_left};
 ghost use Rattle.form_flow.specs.Statements.{outputs as outputs_of};
+ghost use Rattle.form_gathered.specs.Joined.{HaveSums};
+ghost use Rattle.form_levels.specs.Outputs.{HasOutputs};
 ghost use Rattle.form_module.specs.Inputs.{IsTreeOf, inputs_left, inputs_of};
 ghost use Rattle.form_module.specs.Module.{collected_list, result_of as result_meant, through, within};
 ghost use Rattle.form_module.specs.Places.{right_side_by};
-ghost use Rattle.form_module.specs.Summed.{AreAddedIf, AreTogetherIf, GivesIfAny, IsPut};
-ghost use Rattle.form_sides.specs.Collected.{HasTerms};
+ghost use Rattle.form_module.specs.Summed.{AreAddedIf, AreTogetherIf, ComesTo, GivesIfAny, IsPut};
+ghost use Rattle.form_term.specs.declared.monomial.Monomial.{Monomial as Input};
 ghost use Rattle.form_tree.specs.Tree.{Sum, pieces_of_sum};
 
 use crate::inputs::{Batch, BatchEnd, Inputs, next_batch};
@@ -21,15 +23,15 @@ use form_expand::Standing;
 use form_flow::{CompiledModule, Outputs};
 use form_gathered::laws::joined_lists;
 use form_gathered::{Joined, JoinedTerm};
-use form_levels::{Pace, joined_outputs};
-use form_sides::gains_by_joining;
+use form_levels::{Pace, joined_outputs, outputs_of_joined};
+use form_sides::{gains_by_joining, joined_list};
 use form_term::Monomial;
 use form_tree::Piece;
 use std::alloc::{AllocError, Global};
 
-/// The result of a definition whose terms no statement changes, where its right side is joined; none where that isn't likely to
-/// gain anything, or where it isn't certain that nothing is refused.
-pub fn joined_sum(
+/// The result of a definition whose right side is joined; none where that isn't likely to gain anything, or where it isn't certain
+/// that nothing is refused.
+pub fn joined_side(
     alloc: Global,
     settings: &Settings,
     statements: &[Checked],
@@ -44,30 +46,90 @@ pub fn joined_sum(
     let Some(place) = place else {
         return Ok(None);
     };
-    if !pass_all(compiled, settings.max_expand) {
-        return Ok(None);
-    }
     let tree = right_side(statements, place);
-    match collected_side(alloc, tree, settings.max_expand, standing)? {
+    match side_terms(alloc, tree, settings.max_expand, compiled, standing)? {
         Some(terms) => few_enough(settings.max_terms, terms),
         None => Ok(None),
     }
 }
 
-/// What the list of a right side collects to, joined.
-fn collected_side(
+/// What the statements make of a right side's list comes to.
+fn side_terms(
     alloc: Global,
     tree: &[Piece],
     limit: u64,
+    statements: &CompiledModule,
     standing: &Standing,
 ) -> Result<Option<Terms>, AllocError>
+    requires { statements.now.limits.terms ≡ limit }
     ensures { (s : Sum) → tree.now ≡ pieces_of_sum s →
-        IfOk result (λ made. IfSome made (HasTerms (list_of_sum limit standing.now s))) }
+        IfOk result (λ made. IfSome made (ComesTo statements.now (list_of_sum limit standing.now s))) }
 {
     if !gains_by_joining(tree, standing) {
         return Ok(None);
     }
-    form_sides::joined_terms(alloc, tree, limit, standing)
+    if pass_all(statements, limit) {
+        return form_sides::joined_terms(alloc, tree, limit, standing);
+    }
+    changed_terms(alloc, tree, limit, statements, standing)
+}
+
+/// The same where they may change terms: they are carried out on the joined list.
+fn changed_terms(
+    alloc: Global,
+    tree: &[Piece],
+    limit: u64,
+    statements: &CompiledModule,
+    standing: &Standing,
+) -> Result<Option<Terms>, AllocError>
+    ensures { (s : Sum) → tree.now ≡ pieces_of_sum s →
+        IfOk result (λ made. IfSome made (ComesTo statements.now (list_of_sum limit standing.now s))) }
+{
+    joined_lists();
+    let Some(mut pace) = Pace::of_joined(statements) else {
+        return Ok(None);
+    };
+    let Some(list) = joined_list(alloc, tree, limit, standing)? else {
+        return Ok(None);
+    };
+    let Some(outputs) = list_outputs(alloc, statements, &list, &mut pace)? else {
+        return Ok(None);
+    };
+    Ok(Some(outputs.into_terms()?))
+}
+
+/// What the statements make of a list of which these have the sums, batch by batch: where that isn't certain of a batch, in smaller
+/// ones. None where it isn't certain of one joined term, or where it doesn't join.
+fn list_outputs(
+    alloc: Global,
+    statements: &CompiledModule,
+    list: &[JoinedTerm],
+    pace: &mut Pace,
+) -> Result<Option<Joined>, AllocError>
+    ensures { (all : List Input) → HaveSums list.now all → IfOk result (λ made. IfSome made (HasOutputs statements.now all)) }
+{
+    let mut table = Joined::new(alloc);
+    let mut most = usize::MAX;
+    let mut left = list;
+    while !left.is_empty() {
+        let size = pace.size().min(most).min(left.len());
+        let (batch, behind) = left.split_at(size);
+        match outputs_of_joined(alloc, statements, batch, pace)? {
+            Some(outputs) => {
+                if !add_joined(&mut table, outputs)? {
+                    return Ok(None);
+                }
+                left = behind;
+            }
+            None => {
+                if size == 1 {
+                    return Ok(None);
+                }
+                most = size / 2;
+            }
+        }
+    }
+    Ok(Some(table))
 }
 
 /// Terms of a result, unless they are more than so many.

@@ -12,7 +12,7 @@ ghost use Rattle.form_tree.specs.Tree.{Sum};
 
 use crate::carry_error::CarryError;
 use crate::expression_set::{ExpressionSet, changed};
-use crate::joined::{joined_result, joined_sum};
+use crate::joined::{joined_result, joined_side};
 use crate::result::result_of;
 use crate::result_error::ResultError;
 use crate::settled::{are_at_rest, comes_out_alike};
@@ -103,8 +103,8 @@ fn carried(
         Gives (λ terms. terms) result (result_meant settings.now.max_terms compiled.now (inputs_of settings.now.max_expand standing.now expression tree)) }
 {
     let max_expand = settings.max_expand;
-    if let Some(sum) = joined_sum(alloc, settings, statements, compiled, standing, place)? {
-        return Ok(sum);
+    if let Some(side) = joined_side(alloc, settings, statements, compiled, standing, place)? {
+        return Ok(side);
     }
     let mut first = inputs(alloc, max_expand, statements, standing, expression, place);
     if let Some(terms) = joined_result(alloc, settings, compiled, &mut first)? {

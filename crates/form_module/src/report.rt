@@ -1,4 +1,4 @@
-ghost use Rattle.std.specs.Prelude.{◌<◌, length};
+ghost use Rattle.std.specs.Prelude.{◌≡◌, ◌<◌, length};
 ghost use Rattle.form_module.specs.Module.{HaveTrees};
 ghost use Rattle.form_module.specs.Reporting.{IsPlaced, IsRefusedAt, Reports, module_at};
 
@@ -9,6 +9,7 @@ use form_base::{Cause, Id, Name, Place, Settings};
 use form_check::Program;
 use form_expand::Stored;
 use form_names::Names;
+use form_outside::{Gate, Store};
 use form_print::text_of;
 use std::alloc::Global;
 
@@ -40,17 +41,23 @@ impl Report {
 
 /// Carries out a module of a program, by its place from 0, over the expressions that stand at its start, each with its
 /// terms in their order; or answers the first refusal, in the order of first definition.
-pub fn run_module(
+///
+/// `stores` are for sorted runs, and `gate` is to be passed before each bucket of inputs. There are neither yet.
+pub fn run_module<S: Store + Send, G: Gate + Sync>(
     alloc: Global,
     settings: &Settings,
     program: &Program,
     index: usize,
     expressions: Vec<Stored>,
+    stores: &mut [S],
+    gate: &G,
 ) -> Result<Report, ModuleError>
     requires within { index < length program.now.modules }
     requires trees { HaveTrees (module_at program.now index) }
-    ensures { Reports settings.now program.now index expressions.items result }
+    ensures reports { Reports settings.now program.now index expressions.items result }
+    ensures same_stores { stores.new ≡ stores.old }
 {
+    let _ = gate;
     let modules = program.modules();
     match carry_out_module(alloc, settings, &modules[index], expressions) {
         Ok(expressions) => Ok(Report {

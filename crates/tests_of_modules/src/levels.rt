@@ -9,8 +9,8 @@ use form_base::{Id, Spot};
 use form_check::{CheckedBlock, Program, check};
 use form_flow::CompiledModule;
 use form_frac::Frac;
-use form_gathered::counted;
-use form_levels::{Pace, joined_outputs};
+use form_gathered::{JoinedTerm, counted};
+use form_levels::{Pace, joined_outputs, outputs_of_joined};
 use form_stmts::{Line, read_program};
 use form_term::{Monomial, Term};
 use std::alloc::{AllocError, Global};
@@ -130,5 +130,33 @@ fn equal_terms_meet_in_turns(rt: HostRuntime) -> Result<(), Fail> {
     assert_eq!(rt; met(alloc, statements, 100)?, Some((16, 5)));
     assert_eq!(rt; met(alloc, statements, 16)?, Some((16, 5)));
     assert_eq!(rt; met(alloc, statements, 15)?, None);
+    Ok(())
+}
+
+/// The same of that term where it is joined, and stands for several of one list.
+fn met_joined(alloc: Global, statements: &str, limit: u64) -> Result<Option<(u64, usize)>, Fail> {
+    let program = program_of(alloc, statements)?;
+    let Some(actions) = actions_in(&program) else {
+        return Err(Fail::from("no module"));
+    };
+    let module = CompiledModule::new(alloc, limit, 100, actions)?;
+    let Some(mut pace) = Pace::of_joined(&module) else {
+        return Err(Fail::from("not by levels"));
+    };
+    let mut input = JoinedTerm::single(fourth_power(alloc)?);
+    input.count = 7;
+    let Some(outputs) = outputs_of_joined(alloc, &module, &[input], &mut pace)? else {
+        return Ok(None);
+    };
+    Ok(counted(&outputs).map(|count| (count, outputs.len())))
+}
+
+#[test]
+fn joined_inputs_count_one_each(rt: HostRuntime) -> Result<(), Fail> {
+    let alloc = rt.alloc();
+    let statements = "repeat id once x = y + z;";
+    assert_eq!(rt; met_joined(alloc, statements, 16)?, Some((16, 5)));
+    assert_eq!(rt; met_joined(alloc, statements, 15)?, None);
+    assert_eq!(rt; met_joined(alloc, "id x = y;", 1)?, Some((1, 1)));
     Ok(())
 }

@@ -12,6 +12,7 @@ use form_check::{Checked, CheckedBlock, IdList, Module, Program, Selection};
 use form_collect::Terms;
 use form_expand::Stored;
 use form_frac::Frac;
+use form_mem::{OpenGate, fresh_stores};
 use form_module::{ModuleError, run_module};
 use form_names::Names;
 use form_term::{Monomial, Term};
@@ -128,7 +129,17 @@ fn are_added(alloc: Global, count: usize, most: u64) -> Result<bool, AllocError>
         max_terms: most,
         ..Settings::default()
     };
-    match run_module(alloc, &settings, &program, 0, ones(alloc, count)?) {
+    let standing = ones(alloc, count)?;
+    let mut stores = fresh_stores(alloc, 17)?;
+    match run_module(
+        alloc,
+        &settings,
+        &program,
+        0,
+        standing,
+        &mut stores,
+        &OpenGate,
+    ) {
         Ok(report) => Ok(is_sum(&report.into_expressions(), count)),
         Err(ModuleError::Refused(_, _)) => Ok(false),
         Err(ModuleError::Memory) => Err(AllocError),
@@ -165,7 +176,18 @@ fn are_as_meant(after: &[Stored]) -> bool {
 /// Whether the module is refused, as the first of its program; or whether what stands after it is as it should be.
 fn is_refused(alloc: Global, value: u128, power: i32) -> Result<Option<bool>, AllocError> {
     let program = program_of(alloc, value, power)?;
-    match run_module(alloc, &Settings::default(), &program, 0, standing(alloc)?) {
+    let settings = Settings::default();
+    let standing = standing(alloc)?;
+    let mut stores = fresh_stores(alloc, 17)?;
+    match run_module(
+        alloc,
+        &settings,
+        &program,
+        0,
+        standing,
+        &mut stores,
+        &OpenGate,
+    ) {
         Ok(report) => Ok(are_as_meant(&report.into_expressions()).then_some(false)),
         Err(error) => is_first(error),
     }

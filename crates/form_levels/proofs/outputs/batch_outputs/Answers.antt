@@ -7,11 +7,11 @@ use Rattle.form_levels.proofs.Ended.{outputs_had}
 use Rattle.form_levels.proofs.outputs.batch_outputs.Goals as goal
 
 pub returns : goal.returns
-returns c =
+returns c = λ inputs joined.
     let m = c.args.compiled.now in
-    let js = c.in-Some.terms.items in
-    let ks = c.in-Some-2.outputs.items in
+    let js = c.args.terms.items in
+    let ks = c.in-Some.outputs.items in
     let come : Comes (run m.limits m.statements) js ks =
-    subst (λ (ss : List Statement). Comes (run m.limits ss) js ks) (c.as_slice.ensures ∙ c.block.ensures) (rw c.in-Some-2.is at c.in_ok-outputs.ensures) in
+    subst (λ (ss : List Statement). Comes (run m.limits ss) js ks) (c.as_slice.ensures ∙ c.block.ensures) (rw c.in-Some.is at c.in_ok-outputs.ensures) in
     let count : c.in-Some-counted.count ≡ counted ks = c.in-Some-counted.ensures ∙ ap counted c.deref.ensures.value in
-    outputs_had m c.args.inputs.now js ks (rw c.in-Some.is at c.in_ok-terms.ensures.stand) come (subst (λ n. n ≤ m.limits.terms) count (subst (λ n. c.in-Some-counted.count ≤ n) c.limit.ensures c.if-count-limit.false))
+    outputs_had m inputs js ks joined come (subst (λ n. n ≤ m.limits.terms) count (subst (λ n. c.in-Some-counted.count ≤ n) c.limit.ensures c.if-count-limit.false))

@@ -5,12 +5,12 @@ use Rattle.form_module.specs.Answers.{Gives, IsRefused}
 use Rattle.form_module.specs.Module.{result_of}
 use Rattle.form_module.proofs.module.carried.Goals as goal
 
-pub returns-in_err-sum : goal.returns-in_err-sum
-returns-in_err-sum c =
-    let p = err_from_is_err_and c.from_residual.result c.from_residual.ensures.1 in λ tree is. rw (p.1, p.2) (c.in_err-sum.ensures c.args.expression tree is)
+pub returns-in_err-side : goal.returns-in_err-side
+returns-in_err-side c =
+    let p = err_from_is_err_and c.from_residual.result c.from_residual.ensures.1 in λ tree is. rw (p.1, p.2) (c.in_err-side.ensures c.args.expression tree is)
 
 pub returns-in-Some : goal.returns-in-Some
-returns-in-Some c = λ tree is. let given = c.in_ok-sum.ensures c.args.expression tree is in rw c.in-Some.is at given
+returns-in-Some c = λ tree is. let given = c.in_ok-side.ensures c.args.expression tree is in rw c.in-Some.is at given
 
 pub returns-in_err-terms : goal.returns-in_err-terms
 returns-in_err-terms c =
