@@ -19,23 +19,24 @@ use Rattle.form_term.specs.declared.monomial.Monomial.{Monomial}
 use Rattle.form_term.specs.Term.{Term, Others, Call, IsTerm, IsCall, AreFactors, exponent_in, exponent_of, of_others, index_order, pair_order, component_order, delta_order, call_order, size, depth, largest_size, largest_depth}
 use Rattle.form_term.specs.Terms.{term}
 use Rattle.form_term.specs.TermLaws.{component_order_total, delta_order_total, call_order_total}
+use Rattle.form_term.proofs.Each.{each_flat}
 use Rattle.form_normal.specs.Lists.{in_order, dots_product}
 use Rattle.form_normal.specs.Factors.{AreEachLawful, IsProductive}
 use Rattle.form_normal.specs.Product.{are_in_range, are_dots_in_range, is_one, is_zero, is_fixed, is_turned, coefficient_of, symbols_product, others_product, term_product, turned, vanishes, joined, limited, product}
 use Rattle.form_normal.proofs.Dots.{IsThere, all_dots, dots_same, dots_rise, dots_there}
 use Rattle.form_normal.proofs.Lasting.{within, all_kept, either_false, no_zeros}
 use Rattle.form_normal.proofs.Limits.{IsDotInRange, each_in_range, each_dot_in_range, are_dots_in_range_from}
-use Rattle.form_normal.proofs.Order.{all_append, all_filter, all_in_order, in_order_same, in_order_rises, in_order_permuted, rises_filter}
+use Rattle.form_normal.proofs.Order.{all_filter, all_in_order, in_order_same, in_order_rises, in_order_permuted, rises_filter}
 use Rattle.form_normal.proofs.Parts.{powers_lawful}
 use Rattle.form_normal.proofs.Powers.{product_from}
 
 -- ---- the product of one factor
 
-sign_kept : (b : Bool) (c : Fraction) → turned ((sum ((if b then 1 else 0) ∷ []) / 2) % 2 == 1) c ≡ c
+pub sign_kept : (b : Bool) (c : Fraction) → turned ((sum ((if b then 1 else 0) ∷ []) / 2) % 2 == 1) c ≡ c
 sign_kept true c = refl
 sign_kept false c = refl
 
-vanish_alone : (t : Term) → vanishes (t ∷ []) ≡ list_any is_zero t.others.deltas
+pub vanish_alone : (t : Term) → vanishes (t ∷ []) ≡ list_any is_zero t.others.deltas
 vanish_alone t = ap (list_any is_zero) (append-nil t.others.deltas)
 
 module _ (m : Monomial) where
@@ -113,11 +114,11 @@ within_from u t e = step (are_in_range u.symbols && are_dots_in_range u.others.d
     step true false f g h = absurd (cc)
     step false b f g h = absurd (cc)
 
-each_of : {A : Type 0} (P : A → Type 0) (f : Term → List A) → ((t : Term) → AreEachLawful t.others → AllByRecursion P (f t)) → (ts : List Term) → AllByRecursion (λ (t : Term). AreEachLawful t.others) ts → AllByRecursion P (flat_map f ts)
-each_of P f g [] h = tt
-each_of P f g (t ∷ ts) h = all_append P (f t) (flat_map f ts) (g t h.0) (each_of P f g ts h.1)
+-- what holds in the lists of each term holds in the joined ones
+pub in_lists : {A : Type 0} (P : A → Type 0) (f : Term → List A) → ((t : Term) → AreEachLawful t.others → All P (f t)) → (ts : List Term) → AllByRecursion (λ (t : Term). AreEachLawful t.others) ts → AllByRecursion P (flat_map f ts)
+in_lists P f g ts h = each_flat (λ (t : Term). AreEachLawful t.others) P f (λ t k. recursion_from_All P (f t) (g t k)) ts h
 
-abbrev IsTurned : Delta → Type 0
+abbrev pub IsTurned : Delta → Type 0
 IsTurned d = is_gt (index_order d.first d.second) ≡ false
 
 open_left : (ds : List Delta) → list_any is_zero ds ≡ false → list_any is_fixed (filter (λ d. not (is_one d)) ds) ≡ false
@@ -148,16 +149,16 @@ module _ (ts : List Term) where
         let word = flat_map (λ (t : Term). t.others.word) ts in
         record {
           dots_rise = dots_rise dots;
-          dots_present = All-from_recursion IsThere (dots_product dots) (dots_there dots (each_of IsThere (λ t. t.others.dots) (λ t h. recursion_from_All IsThere t.others.dots h.dots_present) ts each));
+          dots_present = All-from_recursion IsThere (dots_product dots) (dots_there dots (in_lists IsThere (λ t. t.others.dots) (λ t h. h.dots_present) ts each));
           dots_in_range = each_dot_in_range (dots_product dots) range;
-          dots_turned = All-from_recursion (λ (d : DotPower). d.left ≤ d.right) (dots_product dots) (all_dots (λ p q. p ≤ q) dots (each_of (λ (d : DotPower). d.left ≤ d.right) (λ t. t.others.dots) (λ t h. recursion_from_All (λ (d : DotPower). d.left ≤ d.right) t.others.dots h.dots_turned) ts each));
+          dots_turned = All-from_recursion (λ (d : DotPower). d.left ≤ d.right) (dots_product dots) (all_dots (λ p q. p ≤ q) dots (in_lists (λ (d : DotPower). d.left ≤ d.right) (λ t. t.others.dots) (λ t h. h.dots_turned) ts each));
           components_rise = in_order_rises component_order component_order_total (flat_map (λ (t : Term). t.others.components) ts);
           deltas_rise = rises_filter delta_order (λ d. not (is_one d)) (in_order delta_order deltas) (in_order_rises delta_order delta_order_total deltas);
           deltas_turned = All-from_recursion IsTurned (filter (λ d. not (is_one d)) (in_order delta_order deltas))
-              (all_filter IsTurned (λ d. not (is_one d)) (in_order delta_order deltas) (all_in_order delta_order IsTurned deltas (each_of IsTurned (λ t. t.others.deltas) (λ t h. recursion_from_All IsTurned t.others.deltas h.deltas_turned) ts each)));
+              (all_filter IsTurned (λ d. not (is_one d)) (in_order delta_order deltas) (all_in_order delta_order IsTurned deltas (in_lists IsTurned (λ t. t.others.deltas) (λ t h. h.deltas_turned) ts each)));
           functions_rise = in_order_rises call_order call_order_total functions;
-          functions = All-from_recursion IsCall (in_order call_order functions) (all_in_order call_order IsCall functions (each_of IsCall (λ t. t.others.functions) (λ t h. recursion_from_All IsCall t.others.functions h.functions) ts each));
-          word = All-from_recursion IsCall word (each_of IsCall (λ t. t.others.word) (λ t h. recursion_from_All IsCall t.others.word h.word) ts each);
+          functions = All-from_recursion IsCall (in_order call_order functions) (all_in_order call_order IsCall functions (in_lists IsCall (λ t. t.others.functions) (λ t h. h.functions) ts each));
+          word = All-from_recursion IsCall word (in_lists IsCall (λ t. t.others.word) (λ t h. h.word) ts each);
         }
 
     product_lawful : (t : Term) → limited (term_product ts) ≡ Ok t → IsTerm t

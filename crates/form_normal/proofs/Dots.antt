@@ -177,17 +177,17 @@ dots_length (d ∷ ds) = let rest = dots_length ds in let more = put (dots_produ
         step Equal rest = kept (nat_lt 0 (nat_abs (d.exponent +ℤ e.exponent)))
         step Greater rest = omega (arith, rest)
 
-swap : (x y z : ℤ) → x +ℤ (y +ℤ z) ≡ y +ℤ (x +ℤ z)
+pub swap : (x y z : ℤ) → x +ℤ (y +ℤ z) ≡ y +ℤ (x +ℤ z)
 swap x y z = omega (arith, ints)
 
 -- a pair that compares equal is one
-same_pair : (d e : DotPower) → pair_order d e ≡ Equal → (d.left ≡ e.left) × (d.right ≡ e.right)
+pub same_pair : (d e : DotPower) → pair_order d e ≡ Equal → (d.left ≡ e.left) × (d.right ≡ e.right)
 same_pair d e h =
     let both = both_equal (nat_cmp d.left e.left) (nat_cmp d.right e.right) h in
     (numbers_equal d.left e.left both.0, numbers_equal d.right e.right both.1)
 
 -- the exponents of two powers of one pair, at a pair
-added : (b : Bool) (x y z : ℤ) → (if b then x +ℤ y else pos 0) +ℤ z ≡ (if b then x else pos 0) +ℤ ((if b then y else pos 0) +ℤ z)
+pub added : (b : Bool) (x y z : ℤ) → (if b then x +ℤ y else pos 0) +ℤ z ≡ (if b then x else pos 0) +ℤ ((if b then y else pos 0) +ℤ z)
 added true x y z = omega (arith, ints)
 added false x y z = omega (arith, ints)
 

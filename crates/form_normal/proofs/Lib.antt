@@ -1,4 +1,5 @@
 pub mod Alone
+pub mod Coefficients
 pub mod Dots
 pub mod Functions
 pub mod Large
@@ -12,5 +13,7 @@ pub mod Places
 pub mod Powers
 pub mod Recordable
 pub mod Sizes
+pub mod Sums
 pub mod Swapped
+pub mod Together
 pub mod Words

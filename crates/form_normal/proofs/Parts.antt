@@ -1,6 +1,6 @@
 -- The product of two terms by its parts.
 use Rattle.std.proofs.Common.{◌≡◌, Bool, true, false, not, ◌&&◌, ◌||◌, List, [], ◌∷◌, ◌++◌, Option, Some, None, Result, Ok, Err, refl, ap, sym, ◌∙◌, append-nil}
-use Rattle.std.specs.Prelude.{◌==◌, ◌%◌, ◌/◌, sum, if◌then◌else◌}
+use Rattle.std.specs.Prelude.{◌==◌, ◌%◌, ◌/◌, sum, IsErrAnd, if◌then◌else◌}
 use Rattle.std.specs.Bool.{beq}
 use Rattle.std.specs.Option.{ok_or}
 use Rattle.std.specs.List.{range_with_len, list_any}
@@ -80,8 +80,10 @@ pub some_from : {E : Type 0} (o : Option Fraction) (e : E) (x : Fraction) → Ok
 some_from None e x h = absurd (cc)
 some_from (Some y) e x h = cc
 
-pub same_error : {T E : Type 0} (r : Result T E) (e f : E) → r ≡ Err e → r ≡ Err f → e ≡ f
-same_error r e f h k = cc
+-- an error that is handed on is that of the answer
+pub handed_on : {T E : Type 0} (r : Result T E) (e f : E) → IsErrAnd r (λ x. x ≡ e) → r ≡ Err f → e ≡ f
+handed_on (Ok x) e f h k = absurd h
+handed_on (Err x) e f h k = let same : x ≡ f = cc in sym h ∙ same
 
 pub none_from : {E : Type 0} (o : Option Fraction) (e f : E) → Err f ≡ ok_or o e → o ≡ None
 none_from None e f h = refl

@@ -10,10 +10,10 @@ use Rattle.form_term.specs.PowerLaws.{absent_before, absent_past, powers_agree, 
 use Rattle.form_normal.specs.Factors.{IsPresent, IsInRange}
 use Rattle.form_normal.specs.Product.{symbols_product, exponent_sum, reach_of_all}
 
-zero_plus : (x : ℤ) → pos 0 +ℤ x ≡ x
+pub zero_plus : (x : ℤ) → pos 0 +ℤ x ≡ x
 zero_plus x = omega (arith, ints)
 
-plus_zero : (x : ℤ) → x +ℤ pos 0 ≡ x
+pub plus_zero : (x : ℤ) → x +ℤ pos 0 ≡ x
 plus_zero x = omega (arith, ints)
 
 -- the exponents of powers behind others that are before them

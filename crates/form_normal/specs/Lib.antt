@@ -2,3 +2,4 @@ pub mod Factors
 pub mod Lists
 pub mod Product
 pub mod Recordable
+pub mod Several

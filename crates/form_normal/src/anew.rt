@@ -43,7 +43,7 @@ pub fn made_anew(
 }
 
 /// Whether one of the deltas is 0.
-fn is_zero_alone(others: &Others) -> bool
+pub(crate) fn is_zero_alone(others: &Others) -> bool
     ensures { result ≡ list_any is_zero_of others.now.deltas }
 {
     has_zero(&others.deltas)
@@ -76,7 +76,7 @@ fn ordered(others: Others) -> Others
 }
 
 /// A list, put in order.
-fn sorted<T: Ord>(mut list: Vec<T>) -> Vec<T>
+pub(crate) fn sorted<T: Ord>(mut list: Vec<T>) -> Vec<T>
     requires { (x y : T) → T.cmp x y ≡ Equal → x ≡ y }
     ensures { result.items ≡ in_order T.cmp list.items }
 {

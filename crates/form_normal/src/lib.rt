@@ -6,6 +6,7 @@ mod factors;
 pub mod laws;
 mod merging;
 mod products;
+mod several;
 
 pub use anew::made_anew;
 pub use factors::{
@@ -13,3 +14,4 @@ pub use factors::{
     times_word,
 };
 pub use products::{ProductError, product};
+pub use several::product_of_all;

@@ -52,7 +52,7 @@ pub fn both<T: Clone + Drop>(alloc: Global, left: &[T], right: &[T]) -> Result<V
 }
 
 /// Puts copies of these last.
-fn put_all<T: Clone + Drop>(list: &mut Vec<T>, rest: &[T]) -> Result<(), AllocError>
+pub(crate) fn put_all<T: Clone + Drop>(list: &mut Vec<T>, rest: &[T]) -> Result<(), AllocError>
     requires { (x y : T) → T.is_clone x y → y ≡ x }
     ensures { OnOk result (list.new.items ≡ list.old.items ++ rest.now) }
 {
@@ -172,7 +172,7 @@ pub fn merged_dots(
 }
 
 /// The order of the pairs of two dot products.
-fn compare_pairs(left: &DotPower, right: &DotPower) -> Ordering
+pub(crate) fn compare_pairs(left: &DotPower, right: &DotPower) -> Ordering
     ensures { result ≡ pair_order left.now right.now }
 {
     let lefts = left.left.cmp(&right.left);

@@ -1,11 +1,11 @@
-ghost use Rattle.std.specs.Prelude.{◌≡◌, ◌≤◌, false, nat_abs};
+ghost use Rattle.std.specs.Prelude.{◌≡◌, ◌<◌, ◌≤◌, false, nat_abs};
 ghost use Rattle.form_frac.specs.Fraction.{is_zero};
 ghost use Rattle.form_term.specs.Term.{largest_exponent};
 
 use form_base::{Cause, Id};
 use form_frac::Frac;
-use form_normal::{ProductError, has_room, made_anew, product};
-use form_term::{Arguments, Call, Component, Delta, Index, Monomial, Others, Term};
+use form_normal::{ProductError, has_room, made_anew, product, product_of_all};
+use form_term::{Arguments, Call, Component, Delta, DotPower, Index, Monomial, Others, Term};
 use std::alloc::{AllocError, Global};
 use std::test::Fail;
 
@@ -66,9 +66,9 @@ fn function(alloc: Global, id: u32, many: u32, commutes: bool) -> Result<Monomia
     Ok(once(term))
 }
 
-/// How two factors are answered: 0 where their product is 0, 1 where it is made, and else a number for its refusal.
-fn answered(alloc: Global, left: Monomial, right: Monomial) -> u32 {
-    match &product(alloc, &left, &right) {
+/// 0 where a product is 0, 1 where it is made, and else a number for its refusal.
+fn told(answer: Result<Option<Monomial>, ProductError>) -> u32 {
+    match &answer {
         Ok(None) => 0,
         Ok(Some(_)) => 1,
         Err(ProductError::Refused(Cause::Overflow)) => 2,
@@ -76,6 +76,11 @@ fn answered(alloc: Global, left: Monomial, right: Monomial) -> u32 {
         Err(ProductError::Refused(Cause::TermSize)) => 4,
         Err(_) => 5,
     }
+}
+
+/// How two factors are answered.
+fn answered(alloc: Global, left: Monomial, right: Monomial) -> u32 {
+    told(product(alloc, &left, &right))
 }
 
 /// A function of many indices.
@@ -171,6 +176,182 @@ fn zero_is_told_first_and_the_size_last(rt: HostRuntime) -> Result<(), Fail> {
             delta(alloc, 1, 2)?
         ),
         0
+    );
+    Ok(())
+}
+
+/// How factors are answered.
+fn answered_all(alloc: Global, factors: &[Monomial]) -> u32 {
+    told(product_of_all(alloc, factors))
+}
+
+/// The coefficient of a product, where it is whole, and the exponent of its symbol, where that is all that is in it.
+fn power_of_all(alloc: Global, factors: &[Monomial]) -> (i128, i32) {
+    let Some(item) = made(product_of_all(alloc, factors)) else {
+        return (0, 0);
+    };
+    match item.term.powers() {
+        [power] if item.term.has_only_symbols() => (item.coefficient.numerator(), power.exponent),
+        _ => (0, 0),
+    }
+}
+
+#[test]
+fn no_factors_are_one(rt: HostRuntime) -> Result<(), Fail> {
+    assert_eq!(rt; answered_all(rt.alloc(), &[]), 1);
+    Ok(())
+}
+
+#[test]
+fn one_factor_is_its_own_product(rt: HostRuntime) -> Result<(), Fail> {
+    let alloc = rt.alloc();
+    assert_eq!(rt; power_of_all(alloc, &[power(alloc, 0, 3)?]), (2, 3));
+    Ok(())
+}
+
+/// A factor twice, and another one.
+fn twice(factor: Monomial, other: Monomial) -> Result<[Monomial; 3], AllocError> {
+    let again = factor.clone()?;
+    Ok([factor, again, other])
+}
+
+/// Two high powers of a symbol and a third one.
+fn high_powers(alloc: Global, third: i32) -> Result<[Monomial; 3], AllocError>
+    requires { nat_abs third ≤ largest_exponent }
+{
+    twice(power(alloc, 0, 1_000_000_000)?, power(alloc, 0, third)?)
+}
+
+#[test]
+fn exponents_are_summed_before_their_range_is_asked(rt: HostRuntime) -> Result<(), Fail> {
+    let alloc = rt.alloc();
+    assert_eq!(rt;
+        power_of_all(alloc, &high_powers(alloc, -1_000_000_000)?),
+        (8, 1_000_000_000)
+    );
+    assert_eq!(rt; answered_all(alloc, &high_powers(alloc, 1_000_000_000)?), 3);
+    Ok(())
+}
+
+/// A power of a dot product.
+fn dot(alloc: Global, exponent: i32) -> Result<Monomial, AllocError>
+    requires present { 0 < nat_abs exponent }
+    requires in_range { nat_abs exponent ≤ largest_exponent }
+{
+    Ok(once(Term::dot(alloc, DotPower::of(Id::new(0), Id::new(1), exponent))?))
+}
+
+/// Two high powers of a dot product and a third one.
+fn high_dots(alloc: Global, third: i32) -> Result<[Monomial; 3], AllocError>
+    requires present { 0 < nat_abs third }
+    requires in_range { nat_abs third ≤ largest_exponent }
+{
+    twice(dot(alloc, 1_000_000_000)?, dot(alloc, third)?)
+}
+
+/// The exponent of the dot product in a product, where there is one.
+fn dot_of_all(alloc: Global, factors: &[Monomial]) -> i32 {
+    let Some(item) = made(product_of_all(alloc, factors)) else {
+        return 0;
+    };
+    match item.term.dots() {
+        [dot] => dot.exponent,
+        _ => 0,
+    }
+}
+
+#[test]
+fn dot_products_are_summed_before_their_range_is_asked(rt: HostRuntime) -> Result<(), Fail> {
+    let alloc = rt.alloc();
+    assert_eq!(rt;
+        dot_of_all(alloc, &high_dots(alloc, -1_000_000_000)?),
+        1_000_000_000
+    );
+    assert_eq!(rt; answered_all(alloc, &high_dots(alloc, 1_000_000_000)?), 3);
+    Ok(())
+}
+
+/// Factors whose coefficients overflow and whose exponents are past their range, and a third one.
+fn past_both(alloc: Global, third: Monomial) -> Result<[Monomial; 3], AllocError> {
+    let high = power(alloc, 0, 1_000_000_000)?;
+    let largest = Monomial {
+        coefficient: Frac::whole(i128::MAX),
+        term: high.term,
+    };
+    twice(largest, third)
+}
+
+#[test]
+fn overflow_is_told_before_the_range_of_powers(rt: HostRuntime) -> Result<(), Fail> {
+    let alloc = rt.alloc();
+    assert_eq!(rt;
+        answered_all(alloc, &past_both(alloc, Monomial::unit(alloc))?),
+        2
+    );
+    Ok(())
+}
+
+#[test]
+fn a_zero_delta_is_told_before_both(rt: HostRuntime) -> Result<(), Fail> {
+    let alloc = rt.alloc();
+    assert_eq!(rt;
+        answered_all(alloc, &past_both(alloc, delta(alloc, 1, 2)?)?),
+        0
+    );
+    Ok(())
+}
+
+fn imaginary(alloc: Global) -> Result<Monomial, AllocError> {
+    Ok(once(Term::imaginary(alloc)?))
+}
+
+/// The coefficient of a product, where it is whole, and whether `i_` is in it.
+fn imaginary_of_all(alloc: Global, factors: &[Monomial]) -> (i128, bool) {
+    match made(product_of_all(alloc, factors)) {
+        Some(item) => (item.coefficient.numerator(), item.term.is_imaginary()),
+        None => (0, false),
+    }
+}
+
+#[test]
+fn three_imaginary_units_are_minus_one_of_them(rt: HostRuntime) -> Result<(), Fail> {
+    let alloc = rt.alloc();
+    let units = twice(imaginary(alloc)?, imaginary(alloc)?)?;
+    assert_eq!(rt; imaginary_of_all(alloc, &units), (-1, true));
+    Ok(())
+}
+
+/// The numbers of two functions.
+fn names(calls: &[Call]) -> (u32, u32) {
+    match calls {
+        [first, second] => (first.function().position(), second.function().position()),
+        _ => (0, 0),
+    }
+}
+
+/// Commuting functions and others, all in falling order.
+fn falling_functions(alloc: Global) -> Result<Vec<Monomial>, AllocError> {
+    let mut factors = Vec::new(alloc);
+    for (id, commutes) in [(8, true), (6, false), (7, true), (5, false)] {
+        factors.push(function(alloc, id, 1, commutes)?)?;
+    }
+    Ok(factors)
+}
+
+/// The numbers of the commuting functions of a product and of the others.
+fn names_of_all(alloc: Global, factors: &[Monomial]) -> ((u32, u32), (u32, u32)) {
+    match made(product_of_all(alloc, factors)) {
+        Some(item) => (names(item.term.functions()), names(item.term.word())),
+        None => ((0, 0), (0, 0)),
+    }
+}
+
+#[test]
+fn functions_are_put_in_order_and_words_stay_as_they_stand(rt: HostRuntime) -> Result<(), Fail> {
+    let alloc = rt.alloc();
+    assert_eq!(rt;
+        names_of_all(alloc, &falling_functions(alloc)?),
+        ((7, 8), (6, 5))
     );
     Ok(())
 }

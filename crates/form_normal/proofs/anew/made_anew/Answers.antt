@@ -1,13 +1,12 @@
 -- The product of one factor is its coefficient with its factors in order.
-use Rattle.std.proofs.Common.{◌≡◌, Ok, Err, ap, sym, subst, ◌∙◌}
-use Rattle.std.proofs.lemmas.Result.{err_from_is_err_and}
+use Rattle.std.proofs.Common.{◌≡◌, Ok, Err, ap, sym, subst}
 use Rattle.form_term.specs.declared.monomial.Monomial.{Monomial}
 use Rattle.form_term.specs.Term.{Term}
 use Rattle.form_term.specs.Terms.{term}
 use Rattle.form_normal.specs.declared.products.ProductError.TheVariants.{Refused}
 use Rattle.form_normal.specs.Product.{limited}
 use Rattle.form_normal.proofs.Alone.{alone_zero, alone_refused, alone_made, anew_term, ordered_lawful}
-use Rattle.form_normal.proofs.Parts.{same_error}
+use Rattle.form_normal.proofs.Parts.{handed_on}
 use Rattle.form_normal.proofs.anew.made_anew.Goals as goal
 
 pub returns-then-is_zero_alone-clause-made : goal.returns-then-is_zero_alone-clause-made
@@ -21,10 +20,9 @@ within_limits-requires-clause-others c = rw c.ordered-others.ensures (ordered_la
 pub returns-in_err-term-clause-refused : goal.returns-in_err-term-clause-refused
 returns-in_err-term-clause-refused c = λ cause e.
     let m : Monomial = record { coefficient = c.args.coefficient; term = term c.args.powers.items c.args.others } in
-    let p = err_from_is_err_and c.from_residual.result c.from_residual.ensures.1 in
-    let refused : p.0 ≡ Refused cause = same_error c.from_residual.result p.0 (Refused cause) p.1 e in
+    let refused = handed_on c.from_residual.result c.in_err-term.field-0.0 (Refused cause) c.from_residual.ensures.1 e in
     let is = anew_term c.args.powers.items c.args.others c.ordered-others.result c.requires.powers c.ordered-others.ensures in
-    alone_refused m cause (sym c.if-is_zero_alone.ensures) (subst (λ (t : Term). limited t ≡ Err cause) is (c.in_err-term.ensures.refused cause (ap Err (sym p.2 ∙ refused))))
+    alone_refused m cause (sym c.if-is_zero_alone.ensures) (subst (λ (t : Term). limited t ≡ Err cause) is (c.in_err-term.ensures.refused cause (ap Err refused)))
 
 pub returns-clause-made : goal.returns-clause-made
 returns-clause-made c =

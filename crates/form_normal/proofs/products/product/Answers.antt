@@ -1,11 +1,10 @@
 -- The product of the coefficients and that of the terms make up the product (`Parts`).
 use Rattle.std.proofs.Common.{◌≡◌, Bool, Err, ap, sym, ◌∙◌}
-use Rattle.std.proofs.lemmas.Result.{err_from_is_err_and}
 use Rattle.form_base.specs.declared.cause.Cause.TheVariants.{Overflow}
 use Rattle.form_frac.specs.Fraction.{multiply}
 use Rattle.form_normal.specs.declared.products.ProductError.TheVariants.{Refused}
 use Rattle.form_normal.specs.Product.{turned}
-use Rattle.form_normal.proofs.Parts.{some_from, none_from, same_error, product_zero, product_overflows, product_refused, product_made}
+use Rattle.form_normal.proofs.Parts.{some_from, none_from, handed_on, product_zero, product_overflows, product_refused, product_made}
 use Rattle.form_normal.proofs.products.product.Goals as goal
 
 pub returns-then-is_zero_product-clause-ok : goal.returns-then-is_zero_product-clause-ok
@@ -18,9 +17,8 @@ returns-in_default-clause-refused c = λ cause e.
 
 pub returns-in_err-term-clause-refused : goal.returns-in_err-term-clause-refused
 returns-in_err-term-clause-refused c = λ cause e.
-    let p = err_from_is_err_and c.from_residual.result c.from_residual.ensures.1 in
-    let refused : p.0 ≡ Refused cause = same_error c.from_residual.result p.0 (Refused cause) p.1 e in
-    product_refused c.args.left.now c.args.right.now c.in-Ok.size cause (sym c.if-is_zero_product.ensures) (some_from (multiply c.args.left.now.coefficient c.args.right.now.coefficient) _ c.in-Ok.size c.in-Ok.ensures) (c.in_err-term.ensures.refused cause (ap Err (sym p.2 ∙ refused)))
+    let refused = handed_on c.from_residual.result c.in_err-term.field-0.0 (Refused cause) c.from_residual.ensures.1 e in
+    product_refused c.args.left.now c.args.right.now c.in-Ok.size cause (sym c.if-is_zero_product.ensures) (some_from (multiply c.args.left.now.coefficient c.args.right.now.coefficient) _ c.in-Ok.size c.in-Ok.ensures) (c.in_err-term.ensures.refused cause (ap Err refused))
 
 pub returns-clause-ok : goal.returns-clause-ok
 returns-clause-ok c =
