@@ -2,6 +2,7 @@ mod Calculations
 mod Chains
 mod Conditions
 mod Decimals
+mod Few
 mod Fronts
 mod Oldest
 mod Readers

@@ -1,6 +1,6 @@
 //! Numbers and comparisons of operands.
 
-ghost use Rattle.std.specs.Prelude.{◌≡◌};
+ghost use Rattle.std.specs.Prelude.{◌≡◌, Some, pos};
 ghost use Rattle.form_calc.specs.Condition as condition;
 ghost use Rattle.form_calc.specs.Number as number;
 
@@ -18,13 +18,33 @@ pub enum Comparison {
     GreaterOrEqual,
 }
 
-/// The number that digits give behind another one.
+/// The most that a number is before a digit that 64 bits have room for.
+const FEW: u64 = 1_000_000_000_000_000_000;
+
+/// The number that the digits at the front give, as far as 64 bits have room for it, and what follows them.
+fn read_few(digits: &[u8]) -> (u64, &[u8])
+    ensures { number.read_up (number.zero) digits.now ≡ number.read_up (Some (pos result.0)) result.1.now }
+{
+    let mut few: u64 = 0;
+    let mut rest = digits;
+    while let [byte, others @ ..] = rest {
+        if few > FEW {
+            return (few, rest);
+        }
+        few = few * 10 + u64::from(byte.saturating_sub(b'0'));
+        rest = others;
+    }
+    (few, rest)
+}
+
+/// The number that digits give.
 #[tactic(auto, unfolding(crate::specs::Number::read_up))]
 fn read_up(digits: &[u8]) -> Option<i128>
     ensures { result ≡ number.read_up (number.zero) digits.now }
 {
-    let mut value = zero();
-    for byte in digits {
+    let (few, rest) = read_few(digits);
+    let mut value = Some(i128::from(few));
+    for byte in rest {
         value = with_digit(value, *byte);
     }
     value

@@ -1,13 +1,14 @@
 -- Each of some terms times each of others, where none of the products is refused.
 use Rattle.std.proofs.Common.{◌≡◌, ℕ, ◌<◌, List, [], ◌∷◌, ◌++◌, refl, ap, sym}
 use Rattle.std.specs.Prelude.{Option, Some, None, Result, Ok, Err}
-use Rattle.std.specs.List.{AllByRecursion, flat_map}
+use Rattle.std.specs.List.{flat_map}
 use Rattle.std.specs.List.Sorted.{IsPermutation}
 use Rattle.std.proofs.lemmas.Grind.{flat_map-append}
 use Rattle.std.proofs.lemmas.List.Sorted.{IsPermutation-trans, IsPermutation-sym}
 use Rattle.form_base.specs.declared.cause.Cause.{Cause}
 use Rattle.form_term.specs.declared.monomial.Monomial.{Monomial}
 use Rattle.form_normal.specs.Product.{product_of}
+pub use Rattle.form_reach.specs.Rows.{term_made, IsFine, made_with, IsFineWith, crossed, AreFine}
 use Rattle.form_gathered.specs.Joined.{IsShare, IsJoined}
 use Rattle.form_gathered.specs.declared.joined.JoinedTerm.{JoinedTerm}
 use Rattle.form_expand.specs.Listing.{Listing, before, before_by, followed, followed_at, times_each, pairs, pairs_each}
@@ -15,29 +16,6 @@ use Rattle.form_expand.specs.Walks.{all_of}
 use Rattle.form_gathered.proofs.Joining.{beside, moved}
 use Rattle.form_gathered.proofs.Shuffled.{same_list, flat_map_moved, flat_map_both, all_joined, all_moved}
 use Rattle.form_joined.proofs.Mapped.{flat_map_alike, flat_map_nothing, all_weaker}
-
--- the term of a product, nothing where there is none
-abbrev pub term_made : Result (Option Monomial) Cause → List Monomial
-term_made (Ok (Some m)) = m ∷ []
-term_made (Ok None) = []
-term_made (Err cause) = []
-
--- it isn't refused
-abbrev pub IsFine : Result (Option Monomial) Cause → Type 0
-IsFine (Ok made) = Unit {0}
-IsFine (Err cause) = ⊥
-
-abbrev pub made_with : List Monomial → Monomial → List Monomial
-made_with rs m = flat_map (λ r. term_made (product_of m r)) rs
-
-abbrev pub crossed : List Monomial → List Monomial → List Monomial
-crossed ms rs = flat_map (made_with rs) ms
-
-abbrev pub IsFineWith : List Monomial → Monomial → Type 0
-IsFineWith rs m = AllByRecursion (λ r. IsFine (product_of m r)) rs
-
-abbrev pub AreFine : List Monomial → List Monomial → Type 0
-AreFine ms rs = AllByRecursion (IsFineWith rs) ms
 
 -- ---- the pairs of two lists
 

@@ -1,5 +1,6 @@
 pub mod Added
 pub mod Begun
+pub mod Behind
 pub mod Crossed
 pub mod Lengths
 pub mod Lists

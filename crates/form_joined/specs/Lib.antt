@@ -1,3 +1,4 @@
 pub mod Adding
 pub mod Goes
+pub mod Powers
 pub mod Products

@@ -1,13 +1,15 @@
 //! Laws of the definitions, each the contract of a function that does nothing.
 
-ghost use Rattle.std.specs.Prelude.{◌≡◌, ◌<◌, ◌≤◌, ◌*◌, ℕ, suc, List, [], ◌∷◌, ◌++◌, length, map, flat_map, true, Some, None};
+ghost use Rattle.std.specs.Prelude.{◌≡◌, ◌<◌, ◌≤◌, ◌*◌, ◌^◌, ℕ, suc, List, [], ◌∷◌, ◌++◌, length, map, flat_map, replicate, true, Some, None};
 ghost use Rattle.std.specs.List.{AllByRecursion};
 ghost use Rattle.form_term.specs.declared.monomial.Monomial.{Monomial};
 ghost use Rattle.form_gathered.specs.Joined.{IsJoined, Stand, counted};
 ghost use Rattle.form_gathered.specs.declared.joined.JoinedTerm.{JoinedTerm};
+ghost use Rattle.form_expand.specs.Left.{row_behind};
 ghost use Rattle.form_expand.specs.Listing.{Listing, single, limited, followed, pairs, powers, signed};
 ghost use Rattle.form_expand.specs.Walks.{all_of};
 ghost use Rattle.form_joined.specs.Goes.{Goes};
+ghost use Rattle.form_joined.specs.Powers.{HasRoom, IsPower};
 ghost use Rattle.form_joined.specs.Products.{HasList, paired, turned};
 
 use form_frac::laws::weights;
@@ -40,6 +42,15 @@ pub fn joined_products()
         Goes (λ m. limited max (pairs (go m) l)) js ls }
     ensures lengths { (max most : ℕ) (go : Monomial → Listing) (l : Listing) → ((m : Monomial) → length ((go m).terms) ≤ most) →
         (m : Monomial) → length ((limited max (pairs (go m) l)).terms) ≤ most * length l.terms }
+{
+    weights();
+}
+
+/// A joined term with a list so many times behind it is that term times the power of the list, joined.
+pub fn powers_behind_joined_terms()
+    ensures { (max n : ℕ) (j : JoinedTerm) (list : List Monomial) (ps made : List JoinedTerm) → IsPower list n ps → HasRoom (suc n) list j →
+        length list ^ suc n ≤ max → paired (j ∷ []) ps ≡ Some made →
+        Goes (λ m. row_behind max (single (record { coefficient = m.coefficient; term = j.term })) (replicate (suc n) (all_of list))) (j ∷ []) made }
 {
     weights();
 }

@@ -2,6 +2,8 @@
 #![tactic(auto)]
 
 pub mod laws;
+mod powers;
 mod products;
 
+pub use powers::Powers;
 pub use products::{Factors, joined_singles, times_joined, times_list};

@@ -49,6 +49,26 @@ impl Factors {
         })
     }
 
+    /// The terms of a list, each alone.
+    pub(crate) fn of_list(alloc: Global, list: &[Monomial]) -> Result<Factors, AllocError>
+        ensures { IfOk result (λ made. made ≡ singles list.now) }
+    {
+        Ok(Factors {
+            items: factors_of_list(alloc, list)?,
+        })
+    }
+
+    /// The joined terms that they are.
+    pub(crate) fn terms(&self, alloc: Global) -> Result<Vec<JoinedTerm>, AllocError>
+        ensures { IfOk result (λ terms. terms.items ≡ self.now) }
+    {
+        joined_terms(alloc, &self.items)
+    }
+
+    pub(crate) fn len(&self) -> usize {
+        self.items.len()
+    }
+
     /// A joined term times each of them. None where a product is refused, or a weight or a count is out of range.
     pub fn times(
         &self,
@@ -130,6 +150,16 @@ fn factors_of(alloc: Global, terms: &[JoinedTerm]) -> Result<Vec<Factor>, AllocE
     Ok(factors)
 }
 
+fn factors_of_list(alloc: Global, list: &[Monomial]) -> Result<Vec<Factor>, AllocError>
+    ensures { IfOk result (λ factors. map joined_of factors.items ≡ singles list.now) }
+{
+    let mut factors = Vec::new(alloc);
+    for item in list {
+        factors.push(factor_of(JoinedTerm::single(item.clone()?)))?;
+    }
+    Ok(factors)
+}
+
 fn factor_like(term: &JoinedTerm) -> Result<Factor, AllocError>
     ensures { IfOk result (λ factor. joined_of factor ≡ term.now) }
 {
@@ -140,6 +170,27 @@ fn factor_like(term: &JoinedTerm) -> Result<Factor, AllocError>
         },
         weight: term.weight,
         count: term.count,
+    })
+}
+
+fn joined_terms(alloc: Global, factors: &[Factor]) -> Result<Vec<JoinedTerm>, AllocError>
+    ensures { IfOk result (λ terms. terms.items ≡ map joined_of factors.now) }
+{
+    let mut terms = Vec::with_capacity(alloc, factors.len())?;
+    for factor in factors {
+        terms.push(joined_term(factor)?)?;
+    }
+    Ok(terms)
+}
+
+fn joined_term(like: &Factor) -> Result<JoinedTerm, AllocError>
+    ensures { IfOk result (λ term. term ≡ joined_of like.now) }
+{
+    Ok(JoinedTerm {
+        term: like.item.term.clone()?,
+        sum: like.item.coefficient,
+        weight: like.weight,
+        count: like.count,
     })
 }
 

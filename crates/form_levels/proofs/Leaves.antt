@@ -2,18 +2,18 @@
 use Rattle.std.proofs.Common.{◌≡◌, Bool, true, false, if◌then◌else◌, List, [], ◌∷◌, Some, None, refl, sym, ap, subst, ◌∙◌}
 use Rattle.std.specs.List.{AllByRecursion}
 use Rattle.form_ast.specs.declared.statement.Side.{Side}
-use Rattle.form_ast.specs.declared.statement.Side.TheVariants.{Right}
+use Rattle.form_ast.specs.declared.statement.Side.TheVariants.{Left, Right}
 use Rattle.form_term.specs.Term.{Term}
 use Rattle.form_term.specs.declared.monomial.Monomial.{Monomial}
 use Rattle.form_tree.specs.Tree as tree
 use Rattle.form_expand.specs.Expanding.{list_of_sum}
-use Rattle.form_expand.specs.Listing.{Listing}
+use Rattle.form_expand.specs.Listing.{Listing, pairs, single}
 use Rattle.form_expand.specs.Meanings.{no_meanings}
 use Rattle.form_expand.specs.Walks.{all_of}
 use Rattle.form_gathered.specs.Joined.{IsJoined}
 use Rattle.form_gathered.specs.declared.joined.JoinedTerm.{JoinedTerm}
 use Rattle.form_joined.specs.Goes.{Goes}
-use Rattle.form_joined.specs.Products.{HasList, paired, singles}
+use Rattle.form_joined.specs.Products.{HasList, singles}
 use Rattle.form_joined.proofs.Weighed.{WeightLaws}
 use Rattle.form_flow.specs.declared.compiled.ReadyLeaf.TheVariants.{Rewrite, Multiply, Discard}
 use Rattle.form_flow.specs.Outcome.{gone, made, unchanged}
@@ -22,7 +22,8 @@ use Rattle.form_flow.specs.Rewriting.{list_of_rest, rest_of, rewritten}
 use Rattle.form_flow.specs.Statement.{Limits}
 use Rattle.form_flow.specs.Statements.{leaf, multiplied, or_unchanged}
 use Rattle.form_levels.specs.Runs.{Runs}
-use Rattle.form_levels.proofs.Rows.{goes_right}
+use Rattle.form_levels.specs.Sides.{paired_from}
+use Rattle.form_levels.proofs.Rows.{goes_left, goes_right}
 use Rattle.form_levels.proofs.Running.{runs_same, runs_unchanged}
 use Rattle.form_levels.proofs.Terms.{runs_by, runs_gone, runs_made}
 
@@ -50,13 +51,15 @@ module _ (at : Limits) where
   unfolding leaf
   multiplied_run side s js ks g = runs_same (λ m. made (multiplied at.terms side s m)) (leaf at (Multiply side s)) js [] ks (λ m. refl) (runs_made (multiplied at.terms side s) js ks g)
 
-  -- a right side that is a fixed list behind them
-  pub list_behind_run : (laws : WeightLaws) (s : tree.Sum) (list : List Monomial) (js ks : List JoinedTerm)
-      → list_of_sum at.terms no_meanings s ≡ all_of list → IsJoined 1 (singles list) (λ k. list) → paired js (singles list) ≡ Some ks → Runs (leaf at (Multiply Right s)) js [] ks
-  list_behind_run laws s list js ks same alone e =
+  -- a right side that is a fixed list, behind them or before them
+  pub list_beside_run : (laws : WeightLaws) (side : Side) (s : tree.Sum) (list : List Monomial) (js ks : List JoinedTerm)
+      → list_of_sum at.terms no_meanings s ≡ all_of list → IsJoined 1 (singles list) (λ k. list) → paired_from side js (singles list) ≡ Some ks → Runs (leaf at (Multiply side s)) js [] ks
+  list_beside_run laws Right s list js ks same alone e =
       let l = list_of_sum at.terms no_meanings s in
       let whole : HasList l (singles list) = subst (λ (k : Listing). HasList k (singles list)) (sym same) (refl, alone) in
       multiplied_run Right s js ks (goes_right laws js (singles list) ks l whole e)
+  list_beside_run laws Left s list js ks same alone e =
+      multiplied_run Left s js ks (subst (λ (l : Listing). Goes (λ m. pairs l (single m)) js ks) (sym same) (goes_left laws js ks list alone e))
 
   pub discarded_run : (js : List JoinedTerm) → Runs (leaf at Discard) js [] []
   unfolding leaf

@@ -1,5 +1,6 @@
 pub mod Agreeing
 pub mod Asked
+pub mod Becoming
 pub mod Blocks
 pub mod Branching
 pub mod Carrying
@@ -18,7 +19,7 @@ pub mod Rows
 pub mod Running
 pub mod ScaledLists
 pub mod Scaling
+pub mod Several
 pub mod Standing
 pub mod Stepping
 pub mod Terms
-pub mod Unbound

@@ -1,5 +1,5 @@
 -- Rows of lists whose front is a joined term.
-use Rattle.std.proofs.Common.{◌≡◌, ℕ, ◌*◌, ◌≤◌, List, [], ◌∷◌, ◌++◌, length, map, refl, sym, ap, subst, ◌∙◌, arith}
+use Rattle.std.proofs.Common.{◌≡◌, ℕ, ◌*◌, ◌^◌, ◌≤◌, List, [], ◌∷◌, ◌++◌, length, map, replicate, suc, refl, sym, ap, subst, ◌∙◌, arith}
 use Rattle.std.specs.Prelude.{Some, None, flat_map}
 use Rattle.std.specs.List.{AllByRecursion}
 use Rattle.std.proofs.lemmas.List.{map-append}
@@ -9,17 +9,20 @@ use Rattle.form_term.specs.Term.{Term}
 use Rattle.form_term.specs.declared.monomial.Monomial.{Monomial}
 use Rattle.form_expand.specs.Left.{row, row_behind}
 use Rattle.form_expand.specs.Listing.{Listing, limited, pairs, single}
+use Rattle.form_expand.specs.Walks.{all_of}
 use Rattle.form_expand.proofs.Listings.{limited_within}
 use Rattle.form_gathered.specs.Joined.{Share, IsShare, IsJoined, Stand, members, share_members}
 use Rattle.form_gathered.specs.declared.joined.JoinedTerm.{JoinedTerm}
 use Rattle.form_gathered.proofs.Joining.{moved}
 use Rattle.form_gathered.proofs.Shuffled.{same_list}
 use Rattle.form_joined.specs.Goes.{Goes, each_on}
-use Rattle.form_joined.specs.Products.{HasList, paired}
+use Rattle.form_joined.specs.Products.{HasList, paired, singles}
 use Rattle.form_levels.specs.Rows.{with_term, row_from, IsRow}
+use Rattle.form_joined.specs.Powers.{HasRoom, IsPower}
+use Rattle.form_joined.proofs.Behind.{goes_behind}
 use Rattle.form_joined.proofs.Begun.{goes_together}
 use Rattle.form_joined.proofs.Lengths.{length_of_row, length_pairs}
-use Rattle.form_joined.proofs.Lists.{rows_joined}
+use Rattle.form_joined.proofs.Lists.{left_joined, rows_joined}
 use Rattle.form_joined.proofs.Weighed.{WeightLaws}
 
 pub goes_same : (f go : Monomial → Listing) (js ks : List JoinedTerm) → ((m : Monomial) → f m ≡ go m) → Goes f js ks → Goes go js ks
@@ -102,6 +105,13 @@ goes_right laws js ks ls l list made =
     (λ m. limited_within most (pairs (single m) l) (let long = length_pairs (single m) l in omega (arith, long)))
     (rows_joined laws most 1 single l js js ks ls list (goes_alone js) made (λ m. omega arith) (omega arith))
 
+-- a list of terms, each alone, before them
+pub goes_left : (laws : WeightLaws) (js ls : List JoinedTerm) (list : List Monomial) → IsJoined 1 (singles list) (λ k. list) → paired (singles list) js ≡ Some ls → Goes (λ m. pairs (all_of list) (single m)) js ls
+goes_left laws js ls list alone made = record {
+  ended = λ n lists h. (left_joined laws n js (singles list) ls lists list alone h made).0;
+  made = λ n lists h. (left_joined laws n js (singles list) ls lists list alone h made).1;
+}
+
 -- ---- rows
 
 row_more : (max : ℕ) (front l : Listing) (lists : List Listing) → row_behind max front (lists ++ l ∷ []) ≡ limited max (pairs (row_behind max front lists) l)
@@ -112,6 +122,11 @@ row_more max front l (k ∷ lists) = row_more max (limited max (pairs front k)) 
 row_further : (max : ℕ) (t : Term) (lists : List Listing) (l : Listing) (c : Fraction) → row_from max t (lists ++ l ∷ []) c ≡ limited max (pairs (row_from max t lists c) l)
 unfolding row
 row_further max t lists l c = row_more max (limited max (single (record { coefficient = c; term = t }))) l lists
+
+-- a term is a list within its limit
+pub row_alone : (max : ℕ) (t : Term) (lists : List Listing) (c : Fraction) → 1 ≤ max → row_behind max (single (record { coefficient = c; term = t })) lists ≡ row_from max t lists c
+unfolding row
+row_alone max t lists c some = ap (λ (l : Listing). row_behind max l lists) (sym (limited_within max (single (record { coefficient = c; term = t })) (omega (arith, some))))
 
 -- no list: the coefficients at the term alone
 alone_with : (max : ℕ) (t : Term) (c : Fraction) → 1 ≤ max → row_from max t [] c ≡ single (record { coefficient = c; term = t })
@@ -151,3 +166,11 @@ row_done laws max t lists l js fronts gathered ks made most more r s list e prod
           let long = length_of_row max most (row_from max t lists c) l (r.short c) in
           omega (arith, same, long, product);
     }
+
+-- A list so many times behind a joined term, by its power.
+pub row_at_once : (laws : WeightLaws) (max n : ℕ) (j : JoinedTerm) (list : List Monomial) (ps made : List JoinedTerm) → 1 ≤ max → IsPower list n ps → HasRoom (suc n) list j → length list ^ suc n ≤ max
+    → paired (j ∷ []) ps ≡ Some made → Goes (λ m. row_from max j.term (replicate (suc n) (all_of list)) m.coefficient) (j ∷ []) made
+row_at_once laws max n j list ps made some power room short product =
+    goes_same (λ m. row_behind max (single (record { coefficient = m.coefficient; term = j.term })) (replicate (suc n) (all_of list))) (λ m. row_from max j.term (replicate (suc n) (all_of list)) m.coefficient) (j ∷ []) made
+    (λ m. row_alone max j.term (replicate (suc n) (all_of list)) m.coefficient some)
+    (goes_behind laws max n j list ps made power room short product)

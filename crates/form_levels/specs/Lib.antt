@@ -1,10 +1,14 @@
 pub mod Asks
 pub mod Becoming
+pub mod Groups
 pub mod Heaps
 pub mod Linear
 pub mod Outputs
+pub mod Pacing
 pub mod Parting
+pub mod RightSides
 pub mod Rows
 pub mod Rules
 pub mod Runs
+pub mod Sides
 pub mod Stretches

@@ -1,5 +1,6 @@
 -- Rows of lists whose front is a joined term.
-use Rattle.std.specs.Prelude.{ℕ, ◌≤◌, List, [], ◌∷◌, length}
+use Rattle.std.specs.Prelude.{ℕ, ◌≤◌, List, [], ◌∷◌, ◌++◌, length, replicate, Option, Result, IfOk, IfSome}
+use Rattle.std.specs.declared.alloc.AllocError.{AllocError}
 use Rattle.form_frac.specs.Fraction.{Fraction}
 use Rattle.form_term.specs.Term.{Term}
 use Rattle.form_expand.specs.Left.{row}
@@ -24,3 +25,7 @@ pub record IsRow (max : ℕ) (t : Term) (lists : List Listing) (js fronts : List
 -- the fronts are those of a joined term's coefficients
 abbrev pub AreFronts : Term → List Listing → JoinedTerm → Fronts → Type 0
 AreFronts t lists j f = IsRow f.limit t lists (j ∷ []) f.terms.items f.most
+
+-- a list was put behind fronts so many times, where it is told
+abbrev pub IsBehind : Fronts → ℕ → Listing → Result (Option Fronts) AllocError → Type 0
+IsBehind f n l made = (t : Term) (lists : List Listing) (j : JoinedTerm) → AreFronts t lists j f → IfOk made (λ some. IfSome some (AreFronts t (lists ++ replicate n l) j))

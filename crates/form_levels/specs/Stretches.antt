@@ -4,6 +4,9 @@ use Rattle.form_term.specs.declared.monomial.Monomial.{Monomial}
 use Rattle.form_term.specs.Term.{Call}
 use Rattle.form_expand.specs.Listing.{Listing, single}
 use Rattle.form_rewrite.specs.declared.taken.Cut.{Cut}
+use Rattle.form_rewrite.specs.declared.taken.Origin.{Origin}
+use Rattle.form_flow.specs.Rewriting.{word_factor}
+use Rattle.form_levels.specs.declared.rewriting.Stretch.{Stretch}
 
 -- the place of the first cut
 abbrev pub first_cut : List Cut → Option ℕ
@@ -19,16 +22,20 @@ end_before w (c ∷ cs) = c.place
 abbrev pub stretch_at : List Call → Cut → List Cut → List Call
 stretch_at w c cs = take (end_before w cs - c.place) (drop c.place w)
 
-abbrev pub stretches_at : List Call → List Cut → List (List Call)
+-- each with what cut the word in front of it
+abbrev pub stretches_at : List Call → List Cut → List (Origin × List Listing)
 stretches_at w [] = []
-stretches_at w (c ∷ cs) = stretch_at w c cs ∷ stretches_at w cs
+stretches_at w (c ∷ cs) = (c.origin, word_factor (stretch_at w c cs)) ∷ stretches_at w cs
 
 -- a term as a list, where there is one
 abbrev pub list_if : Option Monomial → List Listing
 list_if None = []
 list_if (Some m) = single m ∷ []
 
--- a list before each of others
-abbrev pub before_each : Listing → List (List Listing) → List Listing
-before_each l [] = []
-before_each l (s ∷ ss) = l ∷ s ++ before_each l ss
+abbrev pub with_origin : Stretch → Origin × List Listing
+with_origin s = (s.origin, list_if s.item)
+
+-- before each of them what is put in there
+abbrev pub with_each : (Origin → Listing) → List (Origin × List Listing) → List Listing
+with_each put [] = []
+with_each put (s ∷ ss) = put s.0 ∷ s.1 ++ with_each put ss

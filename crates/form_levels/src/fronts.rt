@@ -15,8 +15,11 @@ use std::alloc::{AllocError, Global};
 /// From so many on, fronts are brought together before another list is put behind them.
 const MANY: usize = 64;
 
-/// The same where it is the list that made them, so that they are likely to meet.
+/// The same where a list that stands several times made them, so that they are likely to meet.
 const MANY_ALIKE: usize = 8;
+
+/// So many products of fronts and a list are in memory at once.
+const MOST_AT_ONCE: usize = 2_000_000;
 
 /// The most times that a list of one term is put behind fronts: where it stands more often, there are quicker ways.
 const MOST_TIMES: usize = 64;
@@ -75,6 +78,9 @@ impl Fronts {
         let Some(fronts) = gathered(self.alloc, self.terms, many)? else {
             return Ok(None);
         };
+        if fronts.len().saturating_mul(list.len()) > MOST_AT_ONCE {
+            return Ok(None);
+        }
         let Some(terms) = times_list(self.alloc, fronts, list)? else {
             return Ok(None);
         };
@@ -95,9 +101,10 @@ impl Fronts {
         if list.len() < 2 && times > MOST_TIMES {
             return Ok(None);
         }
+        let many = many_of(times);
         let mut fronts = self;
         for _made in 0..times {
-            let Some(more) = fronts.times_from(list, MANY_ALIKE)? else {
+            let Some(more) = fronts.times_from(list, many)? else {
                 return Ok(None);
             };
             fronts = more;
@@ -110,6 +117,11 @@ impl Fronts {
     {
         self.terms
     }
+}
+
+/// From how many on fronts are brought together before a list that stands so many times.
+fn many_of(times: usize) -> usize {
+    if times > 1 { MANY_ALIKE } else { MANY }
 }
 
 /// Terms brought together where they are so many.

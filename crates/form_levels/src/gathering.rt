@@ -5,10 +5,10 @@ ghost use Rattle.std.specs.List.{AllByRecursion};
 ghost use Rattle.form_levels.specs.Linear.{AreLinear, IsLinear, IsLinearBranch};
 
 use crate::asking::asks_coefficient;
-use form_ast::Side;
-use form_flow::{CompiledModule, ReadyAction, ReadyBlock, ReadyBranch, ReadyLeaf};
-use form_term::Monomial;
-use form_tree::{IndexName, Name, PatternPiece};
+use form_flow::{
+    CompiledModule, Group, ReadyAction, ReadyBlock, ReadyBranch, ReadyLeaf, ReadySide,
+};
+use form_tree::PatternPiece;
 
 /// Whether all statements can be carried out level by level, and equal terms are likely to meet on the way.
 pub(crate) fn gathers(compiled: &CompiledModule) -> bool
@@ -21,15 +21,15 @@ pub(crate) fn gathers(compiled: &CompiledModule) -> bool
 pub(crate) fn go_by_levels(compiled: &CompiledModule) -> bool
     ensures { OnTrue result (AreLinear compiled.now.statements) }
 {
-    are_known(compiled.block().as_slice(), compiled.limit())
+    are_known(compiled.block().as_slice())
 }
 
 #[cycle(known)]
-fn are_known(block: &[ReadyAction], limit: u64) -> bool
+fn are_known(block: &[ReadyAction]) -> bool
     ensures { OnTrue result (AreLinear block.now) }
 {
     for action in block {
-        if !is_known(action, limit) {
+        if !is_known(action) {
             return false;
         }
     }
@@ -37,25 +37,25 @@ fn are_known(block: &[ReadyAction], limit: u64) -> bool
 }
 
 #[cycle(known)]
-fn is_known(action: &ReadyAction, limit: u64) -> bool
+fn is_known(action: &ReadyAction) -> bool
     ensures { OnTrue result (IsLinear action.now) }
 {
     match action {
-        ReadyAction::Plain(leaf) => is_known_leaf(leaf, limit),
-        ReadyAction::Repeat(block) => are_known(block.as_slice(), limit),
+        ReadyAction::Plain(leaf) => is_known_leaf(leaf),
+        ReadyAction::Repeat(block) => are_known(block.as_slice()),
         ReadyAction::Choose(branches, last) => {
-            are_branches_known(branches.as_slice(), limit) && is_last_known(last, limit)
+            are_branches_known(branches.as_slice()) && is_last_known(last)
         }
         ReadyAction::Within(_, _) => false,
     }
 }
 
 #[cycle(known)]
-fn are_branches_known(branches: &[ReadyBranch], limit: u64) -> bool
+fn are_branches_known(branches: &[ReadyBranch]) -> bool
     ensures { OnTrue result (AllByRecursion IsLinearBranch branches.now) }
 {
     for branch in branches {
-        if asks_coefficient(&branch.condition) || !are_known(branch.block.as_slice(), limit) {
+        if asks_coefficient(&branch.condition) || !are_known(branch.block.as_slice()) {
             return false;
         }
     }
@@ -63,63 +63,38 @@ fn are_branches_known(branches: &[ReadyBranch], limit: u64) -> bool
 }
 
 #[cycle(known)]
-fn is_last_known(last: &Option<ReadyBlock>, limit: u64) -> bool
+fn is_last_known(last: &Option<ReadyBlock>) -> bool
     ensures { OnTrue result (IfSome last.now AreLinear) }
 {
     match last {
-        Some(block) => are_known(block.as_slice(), limit),
+        Some(block) => are_known(block.as_slice()),
         None => true,
     }
 }
 
-fn is_known_leaf(leaf: &ReadyLeaf, limit: u64) -> bool {
+fn is_known_leaf(leaf: &ReadyLeaf) -> bool {
     match leaf {
+        ReadyLeaf::Rewrite(group) => group.only().is_some() || cuts_no_word(group),
+        ReadyLeaf::Multiply(_, _) => true,
         ReadyLeaf::Discard => true,
-        _ => fixed_list(leaf, limit).is_some(),
+        _ => false,
     }
 }
 
-/// What stands in the place of each match, or behind each term, where that is always the same list.
-fn fixed_list<'l>(leaf: &'l ReadyLeaf, limit: u64) -> Option<&'l [Monomial]> {
-    match leaf {
-        ReadyLeaf::Rewrite(group) => {
-            let part = group.only()?;
-            if !binds_nothing(part.pattern().pieces()) {
-                return None;
-            }
-            part.right().list_within(limit)
+/// Whether no pattern takes a stretch of a word: where one of several parts does, nothing is known.
+fn cuts_no_word(group: &Group) -> bool {
+    for part in group.as_slice() {
+        if has_word(part.pattern().pieces()) {
+            return false;
         }
-        ReadyLeaf::Multiply(Side::Right, right) => right.list_within(limit),
-        _ => None,
     }
+    true
 }
 
-/// Whether a pattern has no wildcards.
-fn binds_nothing(pieces: &[PatternPiece]) -> bool {
-    pieces.iter().all(|piece| is_bare(piece))
-}
-
-fn is_bare(piece: &PatternPiece) -> bool {
-    match piece {
-        PatternPiece::Symbol(name, _) => is_itself(name),
-        PatternPiece::Dot(left, right, _) => is_itself(left) && is_itself(right),
-        PatternPiece::Component(vector, index) => is_itself(vector) && is_itself_or_fixed(index),
-        PatternPiece::Delta(left, right) => is_itself_or_fixed(left) && is_itself_or_fixed(right),
-        PatternPiece::Function(name) | PatternPiece::Call(name) => is_itself(name),
-        PatternPiece::Whole(_, _) | PatternPiece::Any(_, _) | PatternPiece::Field(_) => false,
-        _ => true,
-    }
-}
-
-fn is_itself(name: &Name) -> bool {
-    matches!(name, Name::Itself(_))
-}
-
-fn is_itself_or_fixed(index: &IndexName) -> bool {
-    match index {
-        IndexName::Fixed(_) => true,
-        IndexName::Name(name) => is_itself(name),
-    }
+fn has_word(pieces: &[PatternPiece]) -> bool {
+    pieces
+        .iter()
+        .any(|piece| matches!(piece, PatternPiece::Word(_)))
 }
 
 /// Whether equal terms are likely to meet: something is repeated, or several terms are made in front of other statements.
@@ -138,10 +113,33 @@ fn meet(block: &[ReadyAction], limit: u64) -> bool {
 /// Whether a statement is likely to make several terms of one, or some that others make too.
 fn spreads(action: &ReadyAction, limit: u64) -> bool {
     match action {
-        ReadyAction::Plain(leaf) => match fixed_list(leaf, limit) {
-            Some(list) => list.len() > 1,
-            None => false,
-        },
+        ReadyAction::Plain(leaf) => makes_several(leaf, limit),
         _ => true,
+    }
+}
+
+/// Whether several terms are likely to stand in the place of a match, or beside a term.
+fn makes_several(leaf: &ReadyLeaf, limit: u64) -> bool {
+    match leaf {
+        ReadyLeaf::Rewrite(group) => any_several(group, limit),
+        ReadyLeaf::Multiply(_, right) => has_several(right, limit),
+        _ => false,
+    }
+}
+
+fn any_several(group: &Group, limit: u64) -> bool {
+    for part in group.as_slice() {
+        if has_several(part.right(), limit) {
+            return true;
+        }
+    }
+    false
+}
+
+/// Whether a right side has several terms, where wildcards stand for themselves.
+fn has_several(right: &ReadySide, limit: u64) -> bool {
+    match right.list_within(limit) {
+        Some(list) => list.len() > 1,
+        None => true,
     }
 }

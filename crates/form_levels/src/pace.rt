@@ -1,7 +1,8 @@
 //! How many inputs are carried out at once, and whether equal terms are brought together: by what was gained lately. What is
 //! carried out is right whatever is answered here.
-ghost use Rattle.std.specs.Prelude.{◌<◌, IfSome};
+ghost use Rattle.std.specs.Prelude.{◌≡◌, ◌<◌, ◌↔◌, IfSome, IsTrue};
 ghost use Rattle.form_levels.specs.Linear.{AreLinear};
+ghost use Rattle.form_levels.specs.Pacing.{counted, ended, grown, noted, shrunk};
 
 use crate::gathering::{gathers, go_by_levels};
 use form_flow::CompiledModule;
@@ -72,7 +73,9 @@ impl Pace {
     }
 
     /// Whether terms are brought together in this batch.
-    pub(crate) fn is_likely(&self) -> bool {
+    pub(crate) fn is_likely(&self) -> bool
+        ensures { IsTrue result ↔ (self.now.resting ≡ 0) }
+    {
         self.resting == 0
     }
 
@@ -84,22 +87,30 @@ impl Pace {
     }
 
     /// How many terms were made of the batch.
-    pub(crate) fn made(&self) -> u64 {
+    pub(crate) fn made(&self) -> u64
+        ensures { result ≡ self.now.made }
+    {
         self.made
     }
 
     /// A batch begins.
-    pub(crate) fn begin_batch(&mut self) {
+    pub(crate) fn begin_batch(&mut self)
+        ensures { self.new ≡ record self.old { made = 0 } }
+    {
         self.made = 0;
     }
 
     /// So many terms more were made of the batch.
-    pub(crate) fn count(&mut self, made: u64) {
+    pub(crate) fn count(&mut self, made: u64)
+        ensures { self.new ≡ record self.old { made = counted self.old.made made } }
+    {
         self.made = self.made.saturating_add(made);
     }
 
     /// So many terms were brought together, and so many are left of them.
-    pub(crate) fn note(&mut self, added: u64, left: u64) {
+    pub(crate) fn note(&mut self, added: u64, left: u64)
+        ensures { self.new ≡ noted added left self.old }
+    {
         if self.added > LATELY {
             self.added /= 2;
             self.left /= 2;
@@ -109,7 +120,9 @@ impl Pace {
     }
 
     /// A batch ends; whether all of it was certain.
-    pub(crate) fn end_batch(&mut self, is_certain: bool) {
+    pub(crate) fn end_batch(&mut self, is_certain: bool)
+        ensures { self.new ≡ ended is_certain self.old }
+    {
         if !is_certain {
             self.shrink();
             return;
@@ -125,7 +138,9 @@ impl Pace {
     }
 
     /// The next batches are small; where this one was, they aren't likely to be certain, and some rest.
-    fn shrink(&mut self) {
+    fn shrink(&mut self)
+        ensures { self.new ≡ shrunk self.old }
+    {
         self.is_settled = true;
         if self.size > FIRST {
             self.size = FIRST;
@@ -135,7 +150,9 @@ impl Pace {
     }
 
     /// Batches become larger as long as less is made for each input.
-    fn grow(&mut self) {
+    fn grow(&mut self)
+        ensures { self.new ≡ grown self.old }
+    {
         let is_less = self.made / 2 <= self.before - self.before / 16;
         if self.is_settled || !is_less || self.size >= MOST || self.made >= MANY {
             self.is_settled = true;

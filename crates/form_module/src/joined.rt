@@ -24,7 +24,7 @@ use form_flow::{CompiledModule, Outputs};
 use form_gathered::laws::joined_lists;
 use form_gathered::{Joined, JoinedTerm};
 use form_levels::{Pace, joined_outputs, outputs_of_joined};
-use form_sides::{gains_by_joining, joined_list};
+use form_sides::joined_list;
 use form_term::Monomial;
 use form_tree::Piece;
 use std::alloc::{AllocError, Global};
@@ -65,9 +65,6 @@ fn side_terms(
     ensures { (s : Sum) → tree.now ≡ pieces_of_sum s →
         IfOk result (λ made. IfSome made (ComesTo statements.now (list_of_sum limit standing.now s))) }
 {
-    if !gains_by_joining(tree, standing) {
-        return Ok(None);
-    }
     if pass_all(statements, limit) {
         return form_sides::joined_terms(alloc, tree, limit, standing);
     }

@@ -1,20 +1,19 @@
 -- What calculating braces does to a line.
 use Rattle.std.proofs.Common.{◌≡◌, ℕ, ℤ, Bool, true, false, if◌then◌else◌, List, [], ◌∷◌, ◌++◌, Option, Some, None, Result, Ok, Err, refl, sym, ap, ◌∙◌, append_assoc, append-nil}
-use Rattle.std.specs.Prelude.{◌==◌, ◌&&◌}
+use Rattle.std.specs.Prelude.{◌==◌, ◌&&◌, ⊤}
 use Rattle.std.specs.Fmt.{signed_decimal}
 use Rattle.std.specs.List.{list_any, list_all}
 use Rattle.std.proofs.lemmas.Bool.{or_parts, and_parts, eqb-true}
+use Rattle.std.proofs.lemmas.List.Folds.{list_any-append}
 use Rattle.form_base.specs.declared.cause.Cause.{Cause}
 use Rattle.form_base.specs.declared.cause.Cause.TheVariants.{BadInstruction, CalcRange}
 use Rattle.form_calc.specs.Calculation.{value_of}
-use Rattle.form_preproc.specs.Bytes.{is_digit}
-use Rattle.form_preproc.specs.Braces.{is_calculable, begun, opened, kept, valued, closed, step, end_of, read, calculated}
+use Rattle.form_preproc.specs.Bytes.{is_digit, HasNo}
+use Rattle.form_preproc.specs.Answers.{Gives}
+use Rattle.form_preproc.specs.Braces.{Braces, is_calculable, begun, opened, kept, known, valued, closed, step, end_of, read, calculated, IsKept, IsCalculation, GoesOn}
 use Rattle.form_preproc.specs.Putting.{and_then}
-use Rattle.form_preproc.specs.declared.braces.Braces.{Braces}
-
--- no byte of the text is this one
-abbrev Has_no : ℕ → List ℕ → Type 0
-Has_no byte text = list_any (λ c. c == byte) text ≡ false
+use Rattle.form_preproc.specs.declared.error.LineError.{LineError}
+use Rattle.form_preproc.specs.declared.error.LineError.TheVariants.{Refused, Memory}
 
 -- ---- texts one behind another
 
@@ -76,7 +75,7 @@ goes_on b x closes = by_open (x == 123) refl
 abbrev Reads_as : Braces → List ℕ → Type 0
 Reads_as b xs = (c : Braces) × (read b xs ≡ Ok c) × (end_of c ≡ end_of b ++ xs)
 
-reads_on : (b : Braces) (xs : List ℕ) → Has_no 125 xs → Reads_as b xs
+reads_on : (b : Braces) (xs : List ℕ) → HasNo 125 xs → Reads_as b xs
 unfolding read
 reads_on b [] h = (b, refl, sym (append-nil (end_of b)))
 reads_on b (x ∷ xs) h =
@@ -85,7 +84,7 @@ reads_on b (x ∷ xs) h =
     let more = reads_on first.0 xs o.1 in
     (more.0, one_more b first.0 x xs first.1 ∙ more.1, more.2 ∙ ap (λ t. t ++ xs) first.2 ∙ append_assoc (end_of b) (x ∷ []) xs)
 
-pub nothing_calculated : (text : List ℕ) → Has_no 125 text → calculated text ≡ Ok text
+pub nothing_calculated : (text : List ℕ) → HasNo 125 text → calculated text ≡ Ok text
 nothing_calculated text h =
     let r = reads_on begun text h in
     ap (λ q. and_then q (λ b. Ok (end_of b))) r.1 ∙ ap (λ t. Ok t) r.2
@@ -170,10 +169,6 @@ reads_inside done inside (x ∷ xs) h =
     ∙ reads_inside done (inside ++ x ∷ []) xs a.1
     ∙ ap (λ t. Ok (state true done t)) (append_assoc inside (x ∷ []) xs)
 
-then_end : (r : Result Braces Cause) (rest : List ℕ) → and_then (and_then r (λ b. read b rest)) (λ b. Ok (end_of b)) ≡ and_then r (λ b. and_then (read b rest) (λ b. Ok (end_of b)))
-then_end (Ok b) rest = refl
-then_end (Err cause) rest = refl
-
 ends_inside : (done inside rest : List ℕ) → list_any is_digit inside ≡ true → read (state true done inside) (125 ∷ rest) ≡ and_then (valued done (value_of inside)) (λ b. read b rest)
 unfolding read
 ends_inside done inside rest h = ap (λ (c : Bool). and_then (if c then valued done (value_of inside) else Ok (kept (state true done inside) 125)) (λ b. read b rest)) h
@@ -182,8 +177,17 @@ opens_at : (b : Braces) (before rest : List ℕ) → end_of b ≡ before → rea
 unfolding read
 opens_at b before rest e = ap (λ t. read (state true t []) rest) e
 
-reads_calculation : (before inside rest : List ℕ) → Has_no 125 before → list_all is_calculable inside ≡ true → list_any is_digit inside ≡ true
-    → calculated (before ++ (123 ∷ (inside ++ (125 ∷ rest)))) ≡ and_then (valued before (value_of inside)) (λ b. and_then (read b rest) (λ b. Ok (end_of b)))
+-- a value, between what stands before it and what the rest comes to
+abbrev around : List ℕ → List ℕ → Result ℤ Cause → Result (List ℕ) Cause
+around before rest value = and_then value (λ n. and_then (calculated rest) (λ t. Ok ((before ++ signed_decimal n) ++ t)))
+
+then_alone : (before rest : List ℕ) (value : Result ℤ Cause)
+    → and_then (and_then (and_then value (λ n. Ok (state false (before ++ signed_decimal n) []))) (λ b. read b rest)) (λ b. Ok (end_of b)) ≡ around before rest value
+then_alone before rest (Ok n) = rest_alone (before ++ signed_decimal n) rest
+then_alone before rest (Err cause) = refl
+
+reads_calculation : (before inside rest : List ℕ) → HasNo 125 before → list_all is_calculable inside ≡ true → list_any is_digit inside ≡ true
+    → calculated (before ++ (123 ∷ (inside ++ (125 ∷ rest)))) ≡ around before rest (known (value_of inside))
 reads_calculation before inside rest plain calculable digit =
     let r = reads_on begun before plain in
     ap (λ q. and_then q (λ b. Ok (end_of b)))
@@ -191,29 +195,26 @@ reads_calculation before inside rest plain calculable digit =
     ∙ opens_at r.0 before (inside ++ (125 ∷ rest)) r.2
     ∙ read_on (state true before []) (state true before inside) inside (125 ∷ rest) (reads_inside before [] inside calculable)
     ∙ ends_inside before inside rest digit)
-    ∙ then_end (valued before (value_of inside)) rest
+    ∙ then_alone before rest (known (value_of inside))
 
-pub calculation_put_in : (before inside rest : List ℕ) (n : ℤ) → Has_no 125 before → list_all is_calculable inside ≡ true → list_any is_digit inside ≡ true → value_of inside ≡ Some (Some n)
+regrouped : (a b : List ℕ) (r : Result (List ℕ) Cause) → and_then r (λ t. Ok ((a ++ b) ++ t)) ≡ and_then r (λ t. Ok (a ++ (b ++ t)))
+regrouped a b (Ok t) = ap (λ x. Ok x) (append_assoc a b t)
+regrouped a b (Err cause) = refl
+
+pub calculation_put_in : (before inside rest : List ℕ) (n : ℤ) → HasNo 125 before → list_all is_calculable inside ≡ true → list_any is_digit inside ≡ true → value_of inside ≡ Some (Some n)
     → calculated (before ++ (123 ∷ (inside ++ (125 ∷ rest)))) ≡ and_then (calculated rest) (λ t. Ok (before ++ (signed_decimal n ++ t)))
 calculation_put_in before inside rest n plain calculable digit is =
-    reads_calculation before inside rest plain calculable digit
-    ∙ ap (λ v. and_then (valued before v) (λ b. and_then (read b rest) (λ b. Ok (end_of b)))) is
-    ∙ rest_alone (before ++ signed_decimal n) rest
-    ∙ regrouped before (signed_decimal n) (calculated rest)
-  where
-    regrouped : (a b : List ℕ) (r : Result (List ℕ) Cause) → and_then r (λ t. Ok ((a ++ b) ++ t)) ≡ and_then r (λ t. Ok (a ++ (b ++ t)))
-    regrouped a b (Ok t) = ap (λ x. Ok x) (append_assoc a b t)
-    regrouped a b (Err cause) = refl
+    reads_calculation before inside rest plain calculable digit ∙ ap (λ v. around before rest (known v)) is ∙ regrouped before (signed_decimal n) (calculated rest)
 
-pub calculation_out_of_range : (before inside rest : List ℕ) → Has_no 125 before → list_all is_calculable inside ≡ true → list_any is_digit inside ≡ true → value_of inside ≡ Some None
+pub calculation_out_of_range : (before inside rest : List ℕ) → HasNo 125 before → list_all is_calculable inside ≡ true → list_any is_digit inside ≡ true → value_of inside ≡ Some None
     → calculated (before ++ (123 ∷ (inside ++ (125 ∷ rest)))) ≡ Err CalcRange
 calculation_out_of_range before inside rest plain calculable digit is =
-    reads_calculation before inside rest plain calculable digit ∙ ap (λ v. and_then (valued before v) (λ b. and_then (read b rest) (λ b. Ok (end_of b)))) is
+    reads_calculation before inside rest plain calculable digit ∙ ap (λ v. around before rest (known v)) is
 
-pub calculation_ill_formed : (before inside rest : List ℕ) → Has_no 125 before → list_all is_calculable inside ≡ true → list_any is_digit inside ≡ true → value_of inside ≡ None
+pub calculation_ill_formed : (before inside rest : List ℕ) → HasNo 125 before → list_all is_calculable inside ≡ true → list_any is_digit inside ≡ true → value_of inside ≡ None
     → calculated (before ++ (123 ∷ (inside ++ (125 ∷ rest)))) ≡ Err BadInstruction
 calculation_ill_formed before inside rest plain calculable digit is =
-    reads_calculation before inside rest plain calculable digit ∙ ap (λ v. and_then (valued before v) (λ b. and_then (read b rest) (λ b. Ok (end_of b)))) is
+    reads_calculation before inside rest plain calculable digit ∙ ap (λ v. around before rest (known v)) is
 
 -- ---- braces that stay
 
@@ -223,7 +224,7 @@ by_other x b calculable opens closes e =
     ∙ ap (λ (c : Bool). chosen false c (b.is_open && is_calculable x) b x) closes
     ∙ ap (λ (c : Bool). chosen false false c b x) e
 
-reads_outside : (done xs : List ℕ) → Has_no 123 xs → Has_no 125 xs → read (state false done []) xs ≡ Ok (state false (done ++ xs) [])
+reads_outside : (done xs : List ℕ) → HasNo 123 xs → HasNo 125 xs → read (state false done []) xs ≡ Ok (state false (done ++ xs) [])
 unfolding read
 reads_outside done [] opens closes = ap (λ t. Ok (state false t [])) (sym (append-nil done))
 reads_outside done (x ∷ xs) opens closes =
@@ -241,7 +242,7 @@ record Is_left (before inside xs : List ℕ) : Type 0 where
   inner : left.is_open ≡ true → left.inside ≡ inside ++ xs
   calculable : left.is_open ≡ true → list_all is_calculable xs ≡ true
 
-left_step : (before inside : List ℕ) (x : ℕ) (xs : List ℕ) → (x == 123) ≡ false → (x == 125) ≡ false → Has_no 123 xs → Has_no 125 xs → Is_left before (inside ++ x ∷ []) xs → Is_left before inside (x ∷ xs)
+left_step : (before inside : List ℕ) (x : ℕ) (xs : List ℕ) → (x == 123) ≡ false → (x == 125) ≡ false → HasNo 123 xs → HasNo 125 xs → Is_left before (inside ++ x ∷ []) xs → Is_left before inside (x ∷ xs)
 left_step before inside x xs opens closes opens_there closes_there more = by (is_calculable x) refl
   where
     one : inside ++ (x ∷ xs) ≡ (inside ++ x ∷ []) ++ xs
@@ -265,7 +266,7 @@ left_step before inside x xs opens closes opens_there closes_there more = by (is
       calculable = λ h. absurd cc;
     }
 
-reads_left : (before inside xs : List ℕ) → Has_no 123 xs → Has_no 125 xs → Is_left before inside xs
+reads_left : (before inside xs : List ℕ) → HasNo 123 xs → HasNo 125 xs → Is_left before inside xs
 unfolding read
 reads_left before inside [] opens closes = record {
   left = state true before inside;
@@ -291,11 +292,7 @@ not_calculated before inside l h = by l.left.is_open refl
     by true e = ap (list_any is_digit) (l.inner e) ∙ ap (λ (b : Bool). b && list_any is_digit inside) (sym (l.calculable e)) ∙ h
     by false e = refl
 
-regrouped : (a b : List ℕ) (r : Result (List ℕ) Cause) → and_then r (λ t. Ok ((a ++ b) ++ t)) ≡ and_then r (λ t. Ok (a ++ (b ++ t)))
-regrouped a b (Ok t) = ap (λ x. Ok x) (append_assoc a b t)
-regrouped a b (Err cause) = refl
-
-pub braces_kept : (before inside rest : List ℕ) → Has_no 125 before → Has_no 123 inside → Has_no 125 inside → (list_all is_calculable inside && list_any is_digit inside) ≡ false
+pub braces_kept : (before inside rest : List ℕ) → HasNo 125 before → HasNo 123 inside → HasNo 125 inside → (list_all is_calculable inside && list_any is_digit inside) ≡ false
     → calculated (before ++ (123 ∷ (inside ++ (125 ∷ rest)))) ≡ and_then (calculated rest) (λ t. Ok ((before ++ (123 ∷ (inside ++ 125 ∷ []))) ++ t))
 braces_kept before inside rest plain opens closes h =
     let r = reads_on begun before plain in
@@ -308,9 +305,80 @@ braces_kept before inside rest plain opens closes h =
     ∙ rest_alone (end_of l.left ++ 125 ∷ []) rest
     ∙ ap (λ d. and_then (calculated rest) (λ t. Ok (d ++ t))) (ap (λ t. t ++ 125 ∷ []) l.stands ∙ append_assoc before (123 ∷ inside) (125 ∷ []))
 
-pub unopened_kept : (before rest : List ℕ) → Has_no 123 before → Has_no 125 before → calculated (before ++ (125 ∷ rest)) ≡ and_then (calculated rest) (λ t. Ok ((before ++ 125 ∷ []) ++ t))
+pub unopened_kept : (before rest : List ℕ) → HasNo 123 before → HasNo 125 before → calculated (before ++ (125 ∷ rest)) ≡ and_then (calculated rest) (λ t. Ok ((before ++ 125 ∷ []) ++ t))
 unopened_kept before rest opens closes =
     ap (λ q. and_then q (λ b. Ok (end_of b)))
     (read_on begun (state false before []) before (125 ∷ rest) (reads_outside [] before opens closes)
     ∙ ends_kept (state false before []) rest refl)
     ∙ rest_alone (before ++ 125 ∷ []) rest
+
+-- ---- braces one behind another
+
+at_end : (outside inside rest : List ℕ) → (outside ++ 123 ∷ inside) ++ 125 ∷ rest ≡ outside ++ (123 ∷ (inside ++ (125 ∷ rest)))
+at_end outside inside rest = append_assoc outside (123 ∷ inside) (125 ∷ rest)
+
+parts_without : (byte : ℕ) (xs ys : List ℕ) → HasNo byte (xs ++ ys) → HasNo byte xs × HasNo byte ys
+parts_without byte xs ys h = or_parts (list_any (λ c. c == byte) xs) (list_any (λ c. c == byte) ys) (sym (list_any-append (λ c. c == byte) xs ys) ∙ h)
+
+pub kept_inside : (before outside inside : List ℕ) → before ≡ outside ++ 123 ∷ inside → HasNo 125 before → HasNo 123 inside → (list_all is_calculable inside && list_any is_digit inside) ≡ false → IsKept before
+kept_inside before outside inside is closes opens h rest =
+    let parts = parts_without 125 outside (123 ∷ inside) (ap (list_any (λ c. c == 125)) (sym is) ∙ closes) in
+    ap (λ t. calculated (t ++ 125 ∷ rest)) is ∙ ap calculated (at_end outside inside rest)
+    ∙ braces_kept outside inside rest parts.0 opens parts.1 h
+    ∙ ap (λ d. and_then (calculated rest) (λ t. Ok (d ++ t))) (sym (at_end outside inside []) ∙ ap (λ t. t ++ 125 ∷ []) (sym is))
+
+comes_to : (before outside inside rest : List ℕ) → HasNo 125 before → IsCalculation before outside inside → calculated (before ++ 125 ∷ rest) ≡ around outside rest (known (value_of inside))
+comes_to before outside inside rest closes h =
+    let parts = parts_without 125 outside (123 ∷ inside) (ap (list_any (λ c. c == 125)) (sym h.0) ∙ closes) in
+    let tests = and_parts (list_all is_calculable inside) (list_any is_digit inside) h.1 in
+    ap (λ t. calculated (t ++ 125 ∷ rest)) h.0 ∙ ap calculated (at_end outside inside rest) ∙ reads_calculation outside inside rest parts.0 tests.0 tests.1
+
+pub goes_on_known : (done : ⊤) (old new before outside inside rest : List ℕ) (n : ℤ) → HasNo 125 before → IsCalculation before outside inside → known (value_of inside) ≡ Ok n → new ≡ (old ++ outside) ++ signed_decimal n
+    → GoesOn old new (Ok done) (calculated (before ++ 125 ∷ rest)) (calculated rest)
+goes_on_known done old new before outside inside rest n closes h is made = (
+  outside ++ signed_decimal n,
+  made ∙ append_assoc old outside (signed_decimal n),
+  comes_to before outside inside rest closes h ∙ ap (around outside rest) is,
+)
+
+pub stops_unknown : (old new before outside inside rest : List ℕ) (error : LineError) → HasNo 125 before → IsCalculation before outside inside → Gives {X = ℤ} (Err error) (known (value_of inside))
+    → GoesOn old new (Err error) (calculated (before ++ 125 ∷ rest)) (calculated rest)
+stops_unknown old new before outside inside rest (Refused cause) closes h is =
+    comes_to before outside inside rest closes h ∙ ap (around outside rest) is
+stops_unknown old new before outside inside rest Memory closes h is = tt
+
+pub goes_on_kept : (done : ⊤) (old new before rest : List ℕ) → IsKept before → new ≡ (old ++ before) ++ 125 ∷ [] → GoesOn old new (Ok done) (calculated (before ++ 125 ∷ rest)) (calculated rest)
+goes_on_kept done old new before rest kept made = (before ++ 125 ∷ [], made ∙ append_assoc old before (125 ∷ []), kept rest)
+
+-- a line of which a part is done
+abbrev pub IsDoneTo : List ℕ → List ℕ → List ℕ → Type 0
+IsDoneTo text done rest = calculated text ≡ and_then (calculated rest) (λ t. Ok (done ++ t))
+
+pub nothing_done : (text : List ℕ) → IsDoneTo text [] text
+nothing_done text = by (calculated text)
+  where
+    by : (r : Result (List ℕ) Cause) → r ≡ and_then r (λ t. Ok t)
+    by (Ok t) = refl
+    by (Err cause) = refl
+
+ends_first : (text done rest before behind : List ℕ) → IsDoneTo text done rest → rest ≡ before ++ 125 ∷ behind → calculated text ≡ and_then (calculated (before ++ 125 ∷ behind)) (λ t. Ok (done ++ t))
+ends_first text done rest before behind h is = h ∙ ap (λ r. and_then (calculated r) (λ t. Ok (done ++ t))) is
+
+pub more_done : (read : ⊤) (text done new rest before behind : List ℕ) → IsDoneTo text done rest → rest ≡ before ++ 125 ∷ behind → GoesOn done new (Ok read) (calculated (before ++ 125 ∷ behind)) (calculated behind) → IsDoneTo text new behind
+more_done read text done new rest before behind h is goes =
+    ends_first text done rest before behind h is
+    ∙ ap (λ r. and_then r (λ t. Ok (done ++ t))) goes.2
+    ∙ by goes.0 (calculated behind)
+    ∙ ap (λ d. and_then (calculated behind) (λ t. Ok (d ++ t))) (sym goes.1)
+  where
+    by : (added : List ℕ) (r : Result (List ℕ) Cause) → and_then (and_then r (λ t. Ok (added ++ t))) (λ t. Ok (done ++ t)) ≡ and_then r (λ t. Ok ((done ++ added) ++ t))
+    by added (Ok t) = ap (λ x. Ok x) (sym (append_assoc done added t))
+    by added (Err cause) = refl
+
+pub stops_there : (text done new rest before behind : List ℕ) (error : LineError) → IsDoneTo text done rest → rest ≡ before ++ 125 ∷ behind → GoesOn done new (Err error) (calculated (before ++ 125 ∷ behind)) (calculated behind)
+    → Gives {X = List ℕ} (Err error) (calculated text)
+stops_there text done new rest before behind (Refused cause) h is stops = ends_first text done rest before behind h is ∙ ap (λ r. and_then r (λ t. Ok (done ++ t))) stops
+stops_there text done new rest before behind Memory h is stops = tt
+
+pub all_done : (text done rest : List ℕ) → IsDoneTo text done rest → HasNo 125 rest → calculated text ≡ Ok (done ++ rest)
+all_done text done rest h none = h ∙ ap (λ r. and_then r (λ t. Ok (done ++ t))) (nothing_calculated rest none)

@@ -6,7 +6,6 @@ mod Changes
 mod Continuing
 mod Cutting
 mod Existing
-pub mod Holding
 mod Leading
 mod Linking
 mod Names
@@ -16,6 +15,7 @@ mod Reading
 mod Running
 mod Separated
 mod Shallow
+mod Splits
 mod Stacks
 mod Stepping
 mod Stored

@@ -14,8 +14,9 @@ use Rattle.form_calc.specs.Number as number
 use Rattle.form_lines.specs.Program.{most_bytes, is_blank, after_blanks}
 use Rattle.form_lines.specs.Text.{PhysicalLine, IsPlain, is_plain_byte, has_bad_byte, lines_but_commentary, kept_lines, unless_bad}
 use Rattle.form_preproc.specs.Braces as braces
+use Rattle.form_preproc.specs.Braces.{Braces}
 use Rattle.form_preproc.specs.Bytes.{is_name, is_digit, is_signed_number, before_blanks, trimmed, named, between}
-use Rattle.form_preproc.specs.Instruction.{defined_in, definition, parts_in, parts_behind, headed, head_of, call_head, without_empty, behind_equals, loop_named, loop_head, without_brace, listed_in, listed, looped_texts, ranged, counted_parts, counted_in, looped_from, looped_or, looped, or_bad, is_past, next_text, next_number, next_value, decimal_of, number_turns}
+use Rattle.form_preproc.specs.Instruction.{defined_in, definition, parts_in, parts_behind, headed, head_of, call_head, without_empty, before_equals, behind_equals, without_brace, listed, looped_texts, ranged, counted_parts, over_texts, over_numbers, looped_from, looped_or, looped, or_bad, is_past, next_text, next_number, next_value, decimal_of, number_turns}
 use Rattle.form_preproc.specs.Key.{key_length, behind_key}
 use Rattle.form_preproc.specs.Parts as parts_of
 use Rattle.form_preproc.specs.PlainTexts.{ArePlain, LinesArePlain}
@@ -23,7 +24,6 @@ use Rattle.form_preproc.specs.Plainness.{ValuesArePlain}
 use Rattle.form_preproc.specs.Putting as putting
 use Rattle.form_preproc.specs.Putting.{and_then, put_in}
 use Rattle.form_preproc.specs.Variables.{Values, newest, first_of}
-use Rattle.form_preproc.specs.declared.braces.Braces.{Braces}
 use Rattle.form_preproc.specs.declared.instruction.Head.{Head}
 use Rattle.form_preproc.specs.declared.key.Key.{Key}
 use Rattle.form_preproc.specs.declared.parts.Parting.{Parting}
@@ -326,27 +326,20 @@ LoopIsPlain l = TurnsArePlain l.turns
 abbrev OkLoop : Result Looped Cause → Type 0
 OkLoop r = IfOk r LoopIsPlain
 
-equals_plain : (name rest : List ℕ) → IsPlain rest → SomeSecond (behind_equals name rest)
-equals_plain name [] h = tt
-equals_plain name (c ∷ cs) h = either SomeSecond (c == 61) _ None (behind_blanks cs (back c cs h)) tt
+behind_equals_plain : (text : List ℕ) → IsPlain text → IsPlain (behind_equals text)
+behind_equals_plain text h =
+    let rest = drop (prefix_len (λ c. not (c == 61)) text) text in
+    behind_blanks (drop 1 rest) (dropped 1 rest (dropped (prefix_len (λ c. not (c == 61)) text) text h))
 
-loop_named_plain : (o : Option (List ℕ × List ℕ)) → SomeSecond o → SomeSecond (loop_named o)
-loop_named_plain None h = tt
-loop_named_plain (Some d) h = equals_plain d.0 d.1 h
+before_equals_plain : (text : List ℕ) → IsPlain text → IsPlain (before_equals text)
+before_equals_plain text h = taken (prefix_len (λ c. not (c == 61)) text) text h
 
-loop_head_plain : (text : List ℕ) → IsPlain text → SomeSecond (loop_head text)
-loop_head_plain text h = loop_named_plain (named text) (named_plain text h)
+without_brace_plain : (o : Option (List ℕ)) → SomePlain o → SomePlain (without_brace o)
+without_brace_plain None h = tt
+without_brace_plain (Some inner) h = either SomePlain _ None (Some inner) tt h
 
-without_brace_plain : (name : List ℕ) (o : Option (List ℕ)) → SomePlain o → SomeSecond (without_brace name o)
-without_brace_plain name None h = tt
-without_brace_plain name (Some inner) h = either SomeSecond _ None (Some (name, inner)) tt h
-
-listed_in_plain : (o : Option (List ℕ × List ℕ)) → SomeSecond o → SomeSecond (listed_in o)
-listed_in_plain None h = tt
-listed_in_plain (Some d) h = without_brace_plain d.0 (between 123 125 d.1) (between_plain 123 125 d.1 h)
-
-listed_plain : (text : List ℕ) → IsPlain text → SomeSecond (listed text)
-listed_plain text h = listed_in_plain (loop_head text) (loop_head_plain text h)
+listed_plain : (text : List ℕ) → IsPlain text → SomePlain (listed text)
+listed_plain text h = without_brace_plain (between 123 125 text) (between_plain 123 125 text h)
 
 texts_plain : (name : List ℕ) (o : Option (List (List ℕ))) → SomeTexts o → OkLoop (looped_texts name o)
 texts_plain name None h = tt
@@ -372,20 +365,24 @@ counted_so : (name : List ℕ) (o : Option (List (List ℕ))) → OkLoop (and_th
 counted_so name None = tt
 counted_so name (Some parts) = counted_plain name parts
 
-counted_in_plain : (o : Option (List ℕ × List ℕ)) → OkLoop (counted_in o)
-counted_in_plain None = tt
-counted_in_plain (Some d) = counted_so d.0 (parts_of.parted Commas d.1)
+over_texts_plain : (name inner : List ℕ) → IsPlain inner → OkLoop (over_texts name inner)
+over_texts_plain name inner h = either OkLoop (is_name name) (looped_texts name (parts_of.parted CommasOrBars inner)) (Err BadInstruction) (texts_plain name (parts_of.parted CommasOrBars inner) (parted_plain CommasOrBars inner h)) tt
 
-from_plain : (text : List ℕ) (o : Option (List ℕ × List ℕ)) → SomeSecond o → OkLoop (looped_from text o)
-from_plain text None h = counted_in_plain (loop_head text)
-from_plain text (Some d) h = texts_plain d.0 (parts_of.parted CommasOrBars d.1) (parted_plain CommasOrBars d.1 h)
+over_numbers_plain : (name text : List ℕ) → OkLoop (over_numbers name text)
+over_numbers_plain name text = either OkLoop (is_name name) (and_then (or_bad (parts_of.parted Commas text)) (counted_parts name)) (Err BadInstruction) (counted_so name (parts_of.parted Commas text)) tt
 
-looped_or_plain : (text : List ℕ) (o : Option (List ℕ × List ℕ)) → IsPlain text → SomeSecond o → OkLoop (looped_or text o)
-looped_or_plain text None t h = and_so IsPlain LoopIsPlain (braces.calculated text) (λ known. looped_from known (listed known)) (calculated_plain text t) (λ known k. from_plain known (listed known) (listed_plain known k))
-looped_or_plain text (Some d) t h = texts_plain d.0 (parts_of.parted CommasOrBars d.1) (parted_plain CommasOrBars d.1 h)
+from_plain : (text : List ℕ) (o : Option (List ℕ)) → SomePlain o → OkLoop (looped_from text o)
+from_plain text None h = over_numbers_plain (trimmed (before_equals text)) (behind_equals text)
+from_plain text (Some inner) h = over_texts_plain (trimmed (before_equals text)) inner h
+
+looped_or_plain : (text : List ℕ) (o : Option (List ℕ)) → IsPlain text → SomePlain o → OkLoop (looped_or text o)
+looped_or_plain text None t h = and_so IsPlain LoopIsPlain (braces.calculated text) (λ known. looped_from known (listed (behind_equals known))) (calculated_plain text t)
+    (λ known k. from_plain known (listed (behind_equals known)) (listed_plain (behind_equals known) (behind_equals_plain known k)))
+looped_or_plain text (Some inner) t h = and_so IsPlain LoopIsPlain (braces.calculated (before_equals text)) (λ known. over_texts (trimmed known) inner) (calculated_plain (before_equals text) (before_equals_plain text t))
+    (λ known k. over_texts_plain (trimmed known) inner h)
 
 pub looped_plain : (text : List ℕ) → IsPlain text → IfOk (looped text) LoopIsPlain
-looped_plain text t = looped_or_plain text (listed text) t (listed_plain text t)
+looped_plain text t = looped_or_plain text (listed (behind_equals text)) t (listed_plain (behind_equals text) (behind_equals_plain text t))
 
 abbrev pub NextIsPlain : List ℕ × Turns → Type 0
 NextIsPlain x = IsPlain x.0 × TurnsArePlain x.1

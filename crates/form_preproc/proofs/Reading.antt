@@ -1,14 +1,14 @@
 -- Reading a line of which only the names are kept once it is too long.
-use Rattle.std.proofs.Common.{◌≡◌, ◌≢◌, ℕ, ◌<◌, ◌≤◌, suc, Bool, true, false, cond, eqb, ltb, List, [], ◌∷◌, ◌++◌, length, drop, get_or, Some, Result, Ok, Err, refl, sym, ap, ◌∙◌, subst, arith, length-append}
-use Rattle.std.proofs.Math.Seq.{drop-cons}
-use Rattle.std.proofs.lemmas.Bool.{lt-ltb, eqb-true}
+use Rattle.std.proofs.Common.{◌≡◌, ◌≢◌, ℕ, ◌<◌, ◌≤◌, Bool, true, false, cond, ltb, List, [], ◌∷◌, ◌++◌, length, drop, get_or, Some, Result, Ok, Err, refl, sym, ap, ◌∙◌, subst, arith, length-append}
+use Rattle.std.proofs.lemmas.Bool.{lt-ltb}
 use Rattle.form_lines.specs.Program.{most_bytes}
 use Rattle.form_base.specs.declared.cause.Cause.{Cause}
 use Rattle.form_base.specs.declared.cause.Cause.TheVariants.{LineLimit}
 use Rattle.form_preproc.specs.Variables.{Values, newest}
-use Rattle.form_preproc.specs.Putting.{and_then, step, closed, valued, opened, with_byte, begun, read, put_in, end_of, end_in}
+use Rattle.form_preproc.specs.Putting.{and_then, step, closed, quoted, quote, valued, opened, with_text, begun, read, put_in, end_of, end_in, AreNoQuotes, IsAtQuote}
+use Rattle.form_preproc.proofs.Quotes.{read_plain, read_over, read_name}
 use Rattle.form_preproc.specs.Answers.{Gives}
-use Rattle.form_preproc.specs.Passing.{LikeIn, IsLike, AreSame, IsRead}
+use Rattle.form_preproc.specs.Passing.{LikeIn, IsLike, AreSame, IsRead, IsReadOn}
 use Rattle.form_preproc.specs.declared.error.LineError.{LineError}
 use Rattle.form_preproc.specs.declared.error.LineError.TheVariants.{Refused, Memory}
 use Rattle.form_preproc.specs.declared.putting.Putting.{Putting}
@@ -18,16 +18,13 @@ use Rattle.form_preproc.specs.declared.putting.Putting.{Putting}
 pub longer_than_most : (text more : List ℕ) → most_bytes < length text → most_bytes < length (text ++ more)
 longer_than_most text more lt = omega (arith, lt, length-append text more)
 
-pub step_open : (values : Values) (p : Putting) (byte : ℕ) → byte ≡ 96 → step values p byte ≡ Ok (opened p)
-step_open values p byte is = ap (step values p) is
+pub opened_same : (is_long : Bool) (p q : Putting) → AreSame is_long p q → AreSame is_long (opened p) (opened q)
+opened_same true p q same = (refl, same)
+opened_same false p q same = ap opened same
 
-pub step_letter : (values : Values) (p : Putting) (byte : ℕ) → byte ≢ 96 → byte ≢ 39 → step values p byte ≡ Ok (with_byte p byte)
-step_letter values p byte no_quote no_end = by (eqb byte 96) refl (eqb byte 39) refl
-  where
-    by : (b : Bool) → eqb byte 96 ≡ b → (d : Bool) → eqb byte 39 ≡ d → cond b (Ok (opened p)) (cond d (closed values p.text p.outer) (Ok (with_byte p byte))) ≡ Ok (with_byte p byte)
-    by true e d f = absurd (no_quote (eqb-true byte 96 e))
-    by false e true f = absurd (no_end (eqb-true byte 39 f))
-    by false e false f = refl
+step_quote : (values : Values) (p : Putting) (opens : Bool) → step values p (quote opens) ≡ quoted values p opens
+step_quote values p true = refl
+step_quote values p false = refl
 
 -- a quote outside all names
 pub passed_quote : (values : Values) (p q : Putting) (left : List (List ℕ)) → IsLike p q → q.outer ≡ [] → left ≡ [] → (next : Putting) × (closed values p.text p.outer ≡ Ok next) × LikeIn next.text next.outer q.text left
@@ -81,25 +78,24 @@ passed_outer values p q kept before value others like is none found outer_is = b
     by text (b ∷ c ∷ outer) old (k ∷ []) new left [] h e s n o = absurd h.1
     by text (b ∷ c ∷ outer) old (k ∷ l ∷ rest) new left [] h e s n o = absurd cc
 
--- a byte outside all names, and in one
-pub passed_byte : (p q : Putting) (byte : ℕ) → IsLike p q → length q.outer ≡ 0 → IsLike (with_byte p byte) q
-passed_byte p q byte like none = by p.text p.outer q.text q.outer like none
+-- a text outside all names, and in one
+pub passed_text : (p q : Putting) (text : List ℕ) → IsLike p q → length q.outer ≡ 0 → IsLike (with_text p text) q
+passed_text p q text like none = by p.text p.outer q.text q.outer like none
   where
-    by : (text : List ℕ) (outer : List (List ℕ)) (kept : List ℕ) (others : List (List ℕ)) → LikeIn text outer kept others → length others ≡ 0 → LikeIn (text ++ byte ∷ []) outer kept others
-    by text [] kept [] h e = longer_than_most text (byte ∷ []) h
-    by text [] kept (k ∷ others) h e = absurd h
-    by text (b ∷ outer) kept [] h e = absurd h
-    by text (b ∷ outer) kept (k ∷ others) h e = absurd (omega (arith, e))
+    by : (old : List ℕ) (outer : List (List ℕ)) (kept : List ℕ) (others : List (List ℕ)) → LikeIn old outer kept others → length others ≡ 0 → LikeIn (old ++ text) outer kept others
+    by old [] kept [] h e = longer_than_most old text h
+    by old [] kept (k ∷ others) h e = absurd h
+    by old (b ∷ outer) kept [] h e = absurd h
+    by old (b ∷ outer) kept (k ∷ others) h e = absurd (omega (arith, e))
 
-pub passed_letter : (p q kept : Putting) (byte : ℕ) → IsLike p q → length q.outer ≢ 0 → kept.outer ≡ q.outer → kept.text ≡ q.text ++ byte ∷ [] → IsLike (with_byte p byte) kept
-passed_letter p q kept byte like some outer_is text_is = by p.text p.outer q.text q.outer kept.text kept.outer like some outer_is text_is
+pub kept_text : (p q : Putting) (text : List ℕ) → IsLike p q → length q.outer ≢ 0 → IsLike (with_text p text) (with_text q text)
+kept_text p q text like some = by p.text p.outer q.text q.outer like some
   where
-    by : (text : List ℕ) (outer : List (List ℕ)) (old : List ℕ) (others : List (List ℕ)) (new : List ℕ) (left : List (List ℕ)) → LikeIn text outer old others → length others ≢ 0 → left ≡ others → new ≡ old ++ byte ∷ []
-        → LikeIn (text ++ byte ∷ []) outer new left
-    by text [] old [] new left h s o t = absurd (s refl)
-    by text [] old (k ∷ others) new left h s o t = absurd h
-    by text (b ∷ outer) old [] new left h s o t = absurd h
-    by text (b ∷ outer) old (k ∷ others) new left h s o t = subst (λ (xs : List (List ℕ)). LikeIn (text ++ byte ∷ []) (b ∷ outer) new xs) (sym o) (ap (λ u. u ++ byte ∷ []) h.0 ∙ sym t, h.1)
+    by : (old : List ℕ) (outer : List (List ℕ)) (kept : List ℕ) (others : List (List ℕ)) → LikeIn old outer kept others → length others ≢ 0 → LikeIn (old ++ text) outer (kept ++ text) others
+    by old [] kept [] h s = absurd (s refl)
+    by old [] kept (k ∷ others) h s = absurd h
+    by old (b ∷ outer) kept [] h s = absurd h
+    by old (b ∷ outer) kept (k ∷ others) h s = (ap (λ u. u ++ text) h.0, h.1)
 
 -- ---- the end
 
@@ -123,36 +119,46 @@ pub record IsReadTo (values : Values) (text rest : List ℕ) (is_long : Bool) (k
   pub same : AreSame is_long line kept
   pub ahead : read values begun text ≡ read values line rest
 
-read_cons : (values : Values) (p : Putting) (byte : ℕ) (rest : List ℕ) → read values p (byte ∷ rest) ≡ and_then (step values p byte) (λ next. read values next rest)
+read_quoted : (values : Values) (p : Putting) (opens : Bool) (behind : List ℕ) → read values p (quote opens ∷ behind) ≡ and_then (quoted values p opens) (λ next. read values next behind)
 unfolding read
-read_cons values p byte rest = refl
+read_quoted values p opens behind = ap (λ r. and_then r (λ next. read values next behind)) (step_quote values p opens)
 
-read_nil : (values : Values) (p : Putting) → read values p [] ≡ Ok p
-unfolding read
-read_nil values p = refl
+-- a text without quotes, and the quote behind it
+pub read_to : (values : Values) (p : Putting) (text : List ℕ) (opens : Bool) (behind : List ℕ) → AreNoQuotes text
+    → read values p (text ++ quote opens ∷ behind) ≡ and_then (quoted values (with_text p text) opens) (λ next. read values next behind)
+read_to values p text opens behind none = read_over values p text (quote opens ∷ behind) none ∙ read_quoted values (with_text p text) opens behind
 
-pub read_further : (values : Values) (text : List ℕ) (i : ℕ) (is_long now_long : Bool) (kept new next : Putting) (h : IsReadTo values text (drop i text) is_long kept) → i < length text → step values h.line (get_or text i 0) ≡ Ok next
-    → AreSame now_long next new → IsReadTo values text (drop (suc i) text) now_long new
-read_further values text i is_long now_long kept new next h lt is same = record {
-  line = next;
-  same = same;
-  ahead = h.ahead ∙ ap (read values h.line) (drop-cons text i 0 lt) ∙ read_cons values h.line (get_or text i 0) (drop (suc i) text) ∙ ap (λ r. and_then r (λ n. read values n (drop (suc i) text))) is;
-}
+-- and the name that it opens
+pub read_named : (values : Values) (p : Putting) (text behind name rest : List ℕ) → AreNoQuotes text → IsAtQuote behind name false rest
+    → read values p (text ++ 96 ∷ behind) ≡ and_then (valued name (p.text ++ text) p.outer (newest values name)) (λ next. read values next rest)
+read_named values p text behind name rest none is =
+    read_over values p text (96 ∷ behind) none
+    ∙ ap (λ t. read values (with_text p text) (96 ∷ t)) is.0
+    ∙ read_name values (with_text p text) name rest is.1
 
-pub read_fails : (values : Values) (text : List ℕ) (i : ℕ) (is_long : Bool) (kept : Putting) (cause : Cause) (h : IsReadTo values text (drop i text) is_long kept) → i < length text → step values h.line (get_or text i 0) ≡ Err cause → put_in values text ≡ Err cause
-read_fails values text i is_long kept cause h lt is =
-    ap (λ r. and_then r end_of) (h.ahead ∙ ap (read values h.line) (drop-cons text i 0 lt) ∙ read_cons values h.line (get_or text i 0) (drop (suc i) text) ∙ ap (λ r. and_then r (λ n. read values n (drop (suc i) text))) is)
+pub reads_on : (values : Values) (whole : Result Putting Cause) (meant : Result Putting Cause) (rest : List ℕ) (is_long : Bool) (new next : Putting)
+    → whole ≡ and_then meant (λ next. read values next rest) → meant ≡ Ok next → AreSame is_long next new → IsReadOn values is_long new rest whole
+reads_on values whole meant rest is_long new next to is same = (next, to ∙ ap (λ r. and_then r (λ next. read values next rest)) is, same)
+
+pub stops_at : (values : Values) (whole meant : Result Putting Cause) (rest : List ℕ) (new : Putting) (error : LineError)
+    → whole ≡ and_then meant (λ next. read values next rest) → IsRead new (Err error) meant → Gives {X = Putting} (Err error) whole
+stops_at values whole meant rest new (Refused cause) to is = to ∙ ap (λ r. and_then r (λ next. read values next rest)) is
+stops_at values whole meant rest new Memory to is = is
+
+pub read_further : (values : Values) (text rest behind : List ℕ) (is_long now_long : Bool) (kept new : Putting) (whole : List ℕ) (h : IsReadTo values text rest is_long kept)
+    → rest ≡ whole → IsReadOn values now_long new behind (read values h.line whole) → IsReadTo values text behind now_long new
+read_further values text rest behind is_long now_long kept new whole h at r = record { line = r.0; same = r.2; ahead = h.ahead ∙ ap (read values h.line) at ∙ r.1 }
 
 -- a step that fails is all that the line comes to
-pub read_stops : (values : Values) (text : List ℕ) (i : ℕ) (is_long : Bool) (kept new : Putting) (error : LineError) (h : IsReadTo values text (drop i text) is_long kept) → i < length text
-    → IsRead new (Err error) (step values h.line (get_or text i 0)) → Gives {X = List ℕ} (Err error) (put_in values text)
-read_stops values text i is_long kept new (Refused cause) h lt is = read_fails values text i is_long kept cause h lt is
-read_stops values text i is_long kept new Memory h lt is = is
+pub read_stops : (values : Values) (text rest whole : List ℕ) (is_long : Bool) (kept : Putting) (error : LineError) (h : IsReadTo values text rest is_long kept)
+    → rest ≡ whole → Gives {X = Putting} (Err error) (read values h.line whole) → Gives {X = List ℕ} (Err error) (put_in values text)
+read_stops values text rest whole is_long kept (Refused cause) h at is = ap (λ r. and_then r end_of) (h.ahead ∙ ap (read values h.line) at ∙ is)
+read_stops values text rest whole is_long kept Memory h at is = is
 
 pub end_fails : (is_long : Bool) (p q : Putting) (error : LineError) → AreSame is_long p q → Gives {X = List ℕ} (Err error) (end_of q) → Gives {X = List ℕ} (Err error) (end_of p)
 end_fails true p q (Refused cause) same h = long_fails p q cause same h
 end_fails true p q Memory same h = h
 end_fails false p q error same h = subst (λ k. Gives {X = List ℕ} (Err error) (end_of k)) (sym same) h
 
-pub read_all : (values : Values) (text rest : List ℕ) (is_long : Bool) (kept : Putting) (h : IsReadTo values text rest is_long kept) → rest ≡ [] → put_in values text ≡ end_of h.line
-read_all values text rest is_long kept h none = ap (λ r. and_then r end_of) (h.ahead ∙ ap (read values h.line) none ∙ read_nil values h.line)
+pub read_all : (values : Values) (text rest : List ℕ) (is_long : Bool) (kept : Putting) (h : IsReadTo values text rest is_long kept) → AreNoQuotes rest → put_in values text ≡ end_of (with_text h.line rest)
+read_all values text rest is_long kept h none = ap (λ r. and_then r end_of) (h.ahead ∙ read_plain values h.line rest none)

@@ -1,8 +1,12 @@
 -- Blanks, names and quotes in a line.
-use Rattle.std.specs.Prelude.{ℕ, ◌-◌, Bool, true, false, not, ◌==◌, ◌||◌, ◌&&◌, nat_le, if◌then◌else◌, List, [], ◌∷◌, length, take, drop, reverse, slice_index, Option, Some, None}
-use Rattle.std.specs.List.{list_all, prefix_len}
+use Rattle.std.specs.Prelude.{◌≡◌, ℕ, ◌-◌, Bool, false, ◌==◌, ◌||◌, ◌&&◌, nat_le, if◌then◌else◌, List, [], ◌∷◌, length, take, drop, reverse, slice_index, Option, Some, None}
+use Rattle.std.specs.List.{list_all, list_any, prefix_len}
 use Rattle.std.specs.Char.{is_ascii_alphabetic, is_ascii_alphanumeric}
-use Rattle.form_lines.specs.Program.{is_blank, after_blanks}
+use Rattle.form_lines.specs.Program.{after_blanks}
+
+-- no byte of the text is this one
+abbrev pub HasNo : ℕ → List ℕ → Type 0
+HasNo byte text = list_any (λ c. c == byte) text ≡ false
 
 -- without the blanks at its end
 abbrev pub before_blanks : List ℕ → List ℕ

@@ -1,7 +1,7 @@
 -- What is written behind the keyword of an instruction.
-use Rattle.std.specs.Prelude.{ℕ, ℤ, pos, int_lt, ◌==◌, ◌||◌, ◌&&◌, not, nat_le, Bool, true, false, if◌then◌else◌, List, [], ◌∷◌, length, drop, map, Option, Some, None, option_map, option_and_then, Result, Ok, Err}
+use Rattle.std.specs.Prelude.{ℕ, ℤ, pos, int_lt, ◌==◌, ◌||◌, ◌&&◌, not, nat_le, Bool, true, false, if◌then◌else◌, List, [], ◌∷◌, length, take, drop, map, Option, Some, None, option_map, option_and_then, Result, Ok, Err}
 use Rattle.std.specs.Fmt.{signed_decimal}
-use Rattle.std.specs.List.{list_all, list_any}
+use Rattle.std.specs.List.{list_all, list_any, prefix_len}
 use Rattle.form_base.specs.declared.cause.Cause.{Cause}
 use Rattle.form_base.specs.declared.cause.Cause.TheVariants.{BadInstruction, CalcRange}
 use Rattle.form_lines.specs.Program.{is_blank, after_blanks}
@@ -103,32 +103,23 @@ included_name text = file_name (trimmed (without_sign text))
 
 -- ---- #do N=a,b,c and #do N={t1,t2}
 
-abbrev pub behind_equals : List ℕ → List ℕ → Option (List ℕ × List ℕ)
-behind_equals name [] = None
-behind_equals name (c ∷ cs) = if c == 61 then Some (name, after_blanks cs) else None
+-- what stands before the first `=` of a text, and what stands behind it and its blanks
+abbrev pub before_equals : List ℕ → List ℕ
+before_equals text = take (prefix_len (λ c. not (c == 61)) text) text
 
-abbrev pub loop_named : Option (List ℕ × List ℕ) → Option (List ℕ × List ℕ)
-loop_named None = None
-loop_named (Some (name, rest)) = behind_equals name rest
-
--- the loop's variable, and what stands behind `=`
-abbrev pub loop_head : List ℕ → Option (List ℕ × List ℕ)
-loop_head text = loop_named (named text)
+abbrev pub behind_equals : List ℕ → List ℕ
+behind_equals text = after_blanks (drop 1 (drop (prefix_len (λ c. not (c == 61)) text) text))
 
 abbrev pub is_brace : ℕ → Bool
 is_brace c = (c == 123) || (c == 125)
 
-abbrev pub without_brace : List ℕ → Option (List ℕ) → Option (List ℕ × List ℕ)
-without_brace name None = None
-without_brace name (Some inner) = if list_any is_brace inner then None else Some (name, inner)
+abbrev pub without_brace : Option (List ℕ) → Option (List ℕ)
+without_brace None = None
+without_brace (Some inner) = if list_any is_brace inner then None else Some inner
 
-abbrev pub listed_in : Option (List ℕ × List ℕ) → Option (List ℕ × List ℕ)
-listed_in None = None
-listed_in (Some (name, rest)) = without_brace name (between 123 125 rest)
-
--- braces directly behind `=`, up to the last byte and with no brace inside, hold a list
-abbrev pub listed : List ℕ → Option (List ℕ × List ℕ)
-listed text = listed_in (loop_head text)
+-- what stands in braces, where a text is braces with no brace inside
+abbrev pub listed : List ℕ → Option (List ℕ)
+listed text = without_brace (between 123 125 text)
 
 abbrev pub text_turns : List (List ℕ) → Turns
 text_turns texts = record { texts = texts; is_counted = false; next = Some (pos 0); last = Some (pos 0); step = Some (pos 0) }
@@ -156,21 +147,25 @@ counted_parts name (first ∷ last ∷ step ∷ []) =
     then ranged name (number.number_of first) (number.number_of last) (number.number_of step) else Err BadInstruction
 counted_parts name _ = Err BadInstruction
 
-abbrev pub counted_in : Option (List ℕ × List ℕ) → Result Looped Cause
-counted_in None = Err BadInstruction
-counted_in (Some (name, rest)) = and_then (or_bad (parted Commas rest)) (counted_parts name)
+-- a loop has a name
+abbrev pub over_texts : List ℕ → List ℕ → Result Looped Cause
+over_texts name inner = if is_name name then looped_texts name (parted CommasOrBars inner) else Err BadInstruction
 
-abbrev pub looped_from : List ℕ → Option (List ℕ × List ℕ) → Result Looped Cause
-looped_from text None = counted_in (loop_head text)
-looped_from text (Some (name, inner)) = looped_texts name (parted CommasOrBars inner)
+abbrev pub over_numbers : List ℕ → List ℕ → Result Looped Cause
+over_numbers name text = if is_name name then and_then (or_bad (parted Commas text)) (counted_parts name) else Err BadInstruction
 
-abbrev pub looped_or : List ℕ → Option (List ℕ × List ℕ) → Result Looped Cause
-looped_or text None = and_then (calculated text) (λ known. looped_from known (listed known))
-looped_or text (Some (name, inner)) = looped_texts name (parted CommasOrBars inner)
+abbrev pub looped_from : List ℕ → Option (List ℕ) → Result Looped Cause
+looped_from text None = over_numbers (trimmed (before_equals text)) (behind_equals text)
+looped_from text (Some inner) = over_texts (trimmed (before_equals text)) inner
 
--- A loop's variable and its values: a list as it is written, or what stands there once its braces are calculated.
+abbrev pub looped_or : List ℕ → Option (List ℕ) → Result Looped Cause
+looped_or text None = and_then (calculated text) (λ known. looped_from known (listed (behind_equals known)))
+looped_or text (Some inner) = and_then (calculated (before_equals text)) (λ known. over_texts (trimmed known) inner)
+
+-- A loop's variable and its values. Braces directly behind `=`, up to the last byte and with no brace inside, hold a list as it is
+-- written; all others are calculated, and then such braces may stand there.
 abbrev pub looped : List ℕ → Result Looped Cause
-looped text = looped_or text (listed text)
+looped text = looped_or text (listed (behind_equals text))
 
 -- ---- the values of a loop, one after another
 

@@ -4,6 +4,8 @@ use Rattle.form_lines.specs.Program.{most_bytes}
 use Rattle.form_base.specs.declared.cause.Cause.{Cause}
 use Rattle.form_preproc.specs.declared.error.LineError.{LineError}
 use Rattle.form_preproc.specs.declared.error.LineError.TheVariants.{Refused, Memory}
+use Rattle.form_preproc.specs.Putting.{read}
+use Rattle.form_preproc.specs.Variables.{Values}
 use Rattle.form_preproc.specs.declared.putting.Putting.{Putting}
 
 -- the same texts but for the outermost one, which is too long for a line
@@ -27,6 +29,10 @@ abbrev pub IsPassed : Putting → Result ⊤ LineError → Result Putting Cause 
 IsPassed kept (Ok done) meant = (next : Putting) × (meant ≡ Ok next) × IsLike next kept
 IsPassed kept (Err (Refused cause)) meant = meant ≡ Err cause
 IsPassed kept (Err Memory) meant = Unit {0}
+
+-- what is kept of a line, whether that is too long, and what is left to be read of it
+abbrev pub IsReadOn : Values → Bool → Putting → List ℕ → Result Putting Cause → Type 0
+IsReadOn values is_long kept rest meant = (next : Putting) × (meant ≡ read values next rest) × AreSame is_long next kept
 
 -- one step in any line: what is kept then and whether that is too long, or a cause
 abbrev pub IsRead : Putting → Result Bool LineError → Result Putting Cause → Type 0

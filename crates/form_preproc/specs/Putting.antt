@@ -1,5 +1,6 @@
 -- Putting the values of variables into a line.
-use Rattle.std.specs.Prelude.{ℕ, ◌==◌, nat_lt, if◌then◌else◌, List, [], ◌∷◌, ◌++◌, length, Option, Some, None, Result, Ok, Err}
+use Rattle.std.specs.Prelude.{◌≡◌, ℕ, Bool, false, ◌==◌, ◌||◌, nat_lt, if◌then◌else◌, List, [], ◌∷◌, ◌++◌, length, Option, Some, None, Result, Ok, Err}
+use Rattle.std.specs.List.{list_any}
 use Rattle.form_lines.specs.Program.{most_bytes}
 use Rattle.form_base.specs.declared.cause.Cause.{Cause}
 use Rattle.form_base.specs.declared.cause.Cause.TheVariants.{Unclosed, UnknownVar, LineLimit}
@@ -17,6 +18,20 @@ unless_long text = if nat_lt most_bytes (length text) then Err LineLimit else Ok
 abbrev pub with_byte : Putting → ℕ → Putting
 with_byte p byte = record { outer = p.outer; text = p.text ++ byte ∷ [] }
 
+abbrev pub with_text : Putting → List ℕ → Putting
+with_text p text = record { outer = p.outer; text = p.text ++ text }
+
+abbrev pub AreNoQuotes : List ℕ → Type 0
+AreNoQuotes text = list_any (λ c. (c == 96) || (c == 39)) text ≡ false
+
+-- a quote that opens a name, or another one
+abbrev pub quote : Bool → ℕ
+quote opens = if opens then 96 else 39
+
+-- what stands before the first quote, whether that opens a name, and what stands behind it
+abbrev pub IsAtQuote : List ℕ → List ℕ → Bool → List ℕ → Type 0
+IsAtQuote text before opens behind = (text ≡ before ++ quote opens ∷ behind) × AreNoQuotes before
+
 -- a name is quoted from here on
 abbrev pub opened : Putting → Putting
 opened p = record { outer = p.text ∷ p.outer; text = [] }
@@ -29,6 +44,10 @@ valued name before outer (Some value) = Ok (record { outer = outer; text = befor
 abbrev pub closed : Values → List ℕ → List (List ℕ) → Result Putting Cause
 closed values text [] = Ok (record { outer = []; text = text ++ 39 ∷ [] })
 closed values text (before ∷ outer) = valued text before outer (newest values text)
+
+-- one more quote
+abbrev pub quoted : Values → Putting → Bool → Result Putting Cause
+quoted values p opens = if opens then Ok (opened p) else closed values p.text p.outer
 
 -- one more byte: what is put in isn't looked at again
 abbrev pub step : Values → Putting → ℕ → Result Putting Cause

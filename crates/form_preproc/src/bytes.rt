@@ -1,6 +1,6 @@
 //! Blanks, names and quotes in a line.
 
-ghost use Rattle.std.specs.Prelude.{◌≡◌, ◌==◌, Some, None, MatchOption};
+ghost use Rattle.std.specs.Prelude.{◌≡◌, ◌==◌, ◌∷◌, ◌++◌, Some, None, MatchOption};
 ghost use Rattle.form_lines.specs.Program.{after_blanks as after_blanks_of, is_blank as is_blank_byte};
 ghost use Rattle.form_preproc.specs.Bytes as bytes;
 ghost use Rattle.std.specs.List.{list_all, list_any, prefix_len};
@@ -17,6 +17,26 @@ pub fn has_byte(text: &[u8], byte: u8) -> bool
     ensures { result ≡ list_any (λ c. c == byte) text.now }
 {
     memchr::memchr(byte, text).is_some()
+}
+
+/// What stands before the first place of a byte and behind it.
+pub fn first_split(text: &[u8], byte: u8) -> Option<(&[u8], &[u8])>
+    ensures { MatchOption result (bytes.HasNo byte text.now) (λ x. (text.now ≡ x.0.now ++ byte ∷ x.1.now) × bytes.HasNo byte x.0.now) }
+{
+    match memchr::memchr(byte, text) {
+        Some(place) => Some((&text[..place], &text[place + 1..])),
+        None => None,
+    }
+}
+
+/// What stands before the last place of a byte and behind it.
+pub fn last_split(text: &[u8], byte: u8) -> Option<(&[u8], &[u8])>
+    ensures { MatchOption result (bytes.HasNo byte text.now) (λ x. (text.now ≡ x.0.now ++ byte ∷ x.1.now) × bytes.HasNo byte x.1.now) }
+{
+    match memchr::memrchr(byte, text) {
+        Some(place) => Some((&text[..place], &text[place + 1..])),
+        None => None,
+    }
 }
 
 /// What follows the blanks at the front.

@@ -1,7 +1,7 @@
 //! What is written behind the keyword of an instruction.
 
-ghost use Rattle.std.specs.Prelude.{◌≡◌, ◌==◌, Some, None, MatchOption};
-ghost use Rattle.std.specs.List.{list_any, list_all};
+ghost use Rattle.std.specs.Prelude.{◌≡◌, ◌==◌, ◌≤◌, not, length, Some, None, MatchOption};
+ghost use Rattle.std.specs.List.{list_any, list_all, prefix_len};
 ghost use Rattle.form_preproc.specs.Answers.{Gives, IsMade};
 ghost use Rattle.form_preproc.specs.Bytes.{is_name as is_name_of};
 ghost use Rattle.form_preproc.specs.Instruction as instruction;
@@ -159,18 +159,23 @@ pub fn included_name(text: &[u8]) -> Option<&[u8]>
     file_name(trimmed(without_sign(text)))
 }
 
-/// A loop's variable, and what stands behind `=`.
-fn loop_head(text: &[u8]) -> Option<(&[u8], &[u8])>
-    ensures { MatchOption result (instruction.loop_head text.now ≡ None) (λ x. instruction.loop_head text.now ≡ Some (x.0.now, x.1.now)) }
+/// How many bytes stand before the first `=`.
+fn size_before_equals(text: &[u8]) -> usize
+    ensures count { result ≡ prefix_len (λ c. not (c == 61)) text.now }
+    ensures within { result ≤ length text.now }
 {
-    let (name, rest) = named(text)?;
-    let [first, others @ ..] = rest else {
-        return None;
-    };
-    if *first == b'=' {
-        Some((name, after_blanks(others)))
-    } else {
-        None
+    text.iter().take_while(|byte| **byte != b'=').count()
+}
+
+/// What stands before the first `=`, and what stands behind it and its blanks.
+fn sides(text: &[u8]) -> (&[u8], &[u8])
+    ensures before { result.0.now ≡ instruction.before_equals text.now }
+    ensures behind { result.1.now ≡ instruction.behind_equals text.now }
+{
+    let (before, rest) = text.split_at(size_before_equals(text));
+    match rest {
+        [_, behind @ ..] => (before, after_blanks(behind)),
+        [] => (before, &[]),
     }
 }
 
@@ -180,23 +185,21 @@ fn has_brace(text: &[u8]) -> bool
     text.iter().any(|byte| *byte == b'{' || *byte == b'}')
 }
 
-/// A loop's variable, and the list in braces behind `=`.
-fn listed(text: &[u8]) -> Option<(&[u8], &[u8])>
-    ensures { MatchOption result (instruction.listed text.now ≡ None) (λ x. instruction.listed text.now ≡ Some (x.0.now, x.1.now)) }
+/// What stands in braces, where this is braces with no brace inside.
+fn listed(text: &[u8]) -> Option<&[u8]>
+    ensures { MatchOption result (instruction.listed text.now ≡ None) (λ x. instruction.listed text.now ≡ Some x.now) }
 {
-    let (name, rest) = loop_head(text)?;
-    let inner = between(b'{', b'}', rest)?;
-    if has_brace(inner) {
-        None
-    } else {
-        Some((name, inner))
-    }
+    let inner = between(b'{', b'}', text)?;
+    if has_brace(inner) { None } else { Some(inner) }
 }
 
 /// A loop over the texts of a list.
-fn looped_texts(alloc: Global, name: &[u8], inner: &[u8]) -> Result<Looped, LineError>
-    ensures { Gives result (instruction.looped_texts name.now (parted_of CommasOrBars inner.now)) }
+fn over_texts(alloc: Global, name: &[u8], inner: &[u8]) -> Result<Looped, LineError>
+    ensures { Gives result (instruction.over_texts name.now inner.now) }
 {
+    if !is_name(name) {
+        return Err(LineError::Refused(Cause::BadInstruction));
+    }
     let texts = parted(alloc, Parting::CommasOrBars, inner)?;
     Ok(Looped {
         name: Text::from_slice(alloc, name)?,
@@ -205,22 +208,24 @@ fn looped_texts(alloc: Global, name: &[u8], inner: &[u8]) -> Result<Looped, Line
 }
 
 /// A loop over numbers.
-fn counted(alloc: Global, text: &[u8]) -> Result<Looped, LineError>
-    ensures { Gives result (instruction.counted_in (instruction.loop_head text.now)) }
+fn over_numbers(alloc: Global, name: &[u8], text: &[u8]) -> Result<Looped, LineError>
+    ensures { Gives result (instruction.over_numbers name.now text.now) }
 {
-    let Some((name, rest)) = loop_head(text) else {
+    if !is_name(name) {
         return Err(LineError::Refused(Cause::BadInstruction));
-    };
-    let parts = parted(alloc, Parting::Commas, rest)?;
+    }
+    let parts = parted(alloc, Parting::Commas, text)?;
     counted_parts(alloc, name, parts.as_slice())
 }
 
+/// A loop whose braces are calculated.
 fn looped_from(alloc: Global, text: &[u8]) -> Result<Looped, LineError>
-    ensures { Gives result (instruction.looped_from text.now (instruction.listed text.now)) }
+    ensures { Gives result (instruction.looped_from text.now (instruction.listed (instruction.behind_equals text.now))) }
 {
-    match listed(text) {
-        Some((name, inner)) => looped_texts(alloc, name, inner),
-        None => counted(alloc, text),
+    let (before, behind) = sides(text);
+    match listed(behind) {
+        Some(inner) => over_texts(alloc, trimmed(before), inner),
+        None => over_numbers(alloc, trimmed(before), behind),
     }
 }
 
@@ -228,8 +233,12 @@ fn looped_from(alloc: Global, text: &[u8]) -> Result<Looped, LineError>
 pub fn looped(alloc: Global, text: &[u8]) -> Result<Looped, LineError>
     ensures { Gives result (instruction.looped text.now) }
 {
-    match listed(text) {
-        Some((name, inner)) => looped_texts(alloc, name, inner),
+    let (before, behind) = sides(text);
+    match listed(behind) {
+        Some(inner) => {
+            let known = calculated(alloc, before)?;
+            over_texts(alloc, trimmed(known.as_slice()), inner)
+        }
         None => {
             let known = calculated(alloc, text)?;
             looped_from(alloc, known.as_slice())

@@ -1,15 +1,14 @@
 //! Putting the values of variables into a line.
 
-ghost use Rattle.std.specs.Prelude.{◌≡◌, IfOk, OnOk};
+ghost use Rattle.std.specs.Prelude.{◌≡◌, ◌≤◌, ◌∷◌, ◌++◌, length, false, ⊤, Err, MatchOption, IfOk, IfErr, OnOk};
 ghost use Rattle.form_preproc.specs.Answers.{Gives, Steps};
 ghost use Rattle.form_preproc.specs.Kept.{kept_in};
-ghost use Rattle.form_preproc.specs.Passing.{AreSame, IsLike, IsPassed, IsRead};
+ghost use Rattle.form_preproc.specs.Passing.{AreSame, IsLike, IsPassed, IsRead, IsReadOn};
 ghost use Rattle.form_preproc.specs.Putting as putting;
+ghost use Rattle.form_preproc.specs.Variables.{newest};
 ghost use Rattle.form_preproc.specs.declared.putting.Putting.{Putting as State};
 
-use crate::bytes::has_byte;
 use crate::error::LineError;
-use crate::laws::values_put_in;
 use crate::variables::{Variables, name_of};
 use form_base::Cause;
 use form_calc::{Stack, Text};
@@ -60,19 +59,6 @@ impl Putting {
         }
     }
 
-    /// Reads one more byte.
-    fn take(&mut self, alloc: Global, variables: &Variables, byte: u8) -> Result<(), LineError>
-        ensures { Steps self.new result (putting.step (kept_in variables.now).values self.old byte) }
-    {
-        if byte == b'`' {
-            return Ok(self.open(alloc)?);
-        }
-        if byte == b'\'' {
-            return self.close(alloc, variables);
-        }
-        Ok(self.text.push(byte)?)
-    }
-
     /// Drops the text outside all names where it is too long for a line: whether it was.
     fn drop_long(&mut self, alloc: Global) -> bool
         ensures { AreSame result self.old self.new }
@@ -100,38 +86,94 @@ impl Putting {
         }
     }
 
-    /// Reads one more byte of a line that is too long, of which only the names are kept.
-    fn pass(&mut self, alloc: Global, variables: &Variables, byte: u8) -> Result<(), LineError>
-        ensures { (p : State) → IsLike p self.old → IsPassed self.new result (putting.step (kept_in variables.now).values p byte) }
+    /// Reads a text without quotes in a line that is too long, of which only the names are kept.
+    fn pass_text(&mut self, text: &[u8]) -> Result<(), AllocError>
+        ensures { (p : State) → IsLike p self.old → OnOk result (IsLike (putting.with_text p text.now) self.new) }
     {
-        if byte == b'`' {
-            return Ok(self.open(alloc)?);
-        }
-        if byte == b'\'' {
-            return self.pass_quote(alloc, variables);
-        }
         if self.outer.len() == 0 {
             return Ok(());
         }
-        Ok(self.text.push(byte)?)
+        self.text.append(text)?;
+        Ok(())
     }
 
-    /// Reads one more byte: whether the line is too long then, of which only the names are kept.
-    fn read(
+    /// Reads a text without quotes: whether the line is too long then, of which only the names are kept.
+    fn read_text(&mut self, alloc: Global, is_long: bool, text: &[u8]) -> Result<bool, AllocError>
+        ensures { (p : State) → AreSame is_long p self.old → IfOk result (λ now_long. AreSame now_long (putting.with_text p text.now) self.new) }
+    {
+        if is_long {
+            self.pass_text(text)?;
+            return Ok(true);
+        }
+        self.text.append(text)?;
+        Ok(self.drop_long(alloc))
+    }
+
+    /// Reads a quote that opens a name, or another one: whether the line is too long then.
+    fn read_quote(
         &mut self,
         alloc: Global,
         variables: &Variables,
         is_long: bool,
-        byte: u8,
+        opens: bool,
     ) -> Result<bool, LineError>
-        ensures { (p : State) → AreSame is_long p self.old → IsRead self.new result (putting.step (kept_in variables.now).values p byte) }
+        ensures { (p : State) → AreSame is_long p self.old → IsRead self.new result (putting.quoted (kept_in variables.now).values p opens) }
     {
+        if opens {
+            self.open(alloc)?;
+            return Ok(is_long);
+        }
         if is_long {
-            self.pass(alloc, variables, byte)?;
+            self.pass_quote(alloc, variables)?;
             return Ok(true);
         }
-        self.take(alloc, variables, byte)?;
+        self.close(alloc, variables)?;
         Ok(self.drop_long(alloc))
+    }
+
+    /// Puts the value of a name behind the text: whether the line is too long then.
+    fn put_value(
+        &mut self,
+        alloc: Global,
+        variables: &Variables,
+        is_long: bool,
+        name: &[u8],
+    ) -> Result<bool, LineError>
+        ensures { (p : State) → AreSame is_long p self.old → IsRead self.new result (putting.valued name.now p.text p.outer (newest (kept_in variables.now).values name.now)) }
+    {
+        match variables.newest(name) {
+            Some(value) => Ok(self.read_text(alloc, is_long, value)?),
+            None => Err(LineError::Refused(Cause::UnknownVar(name_of(alloc, name)?))),
+        }
+    }
+
+    /// Reads a text without quotes and the quote behind it, with the name that it opens where no other is in that: whether the
+    /// line is too long then, and what follows.
+    fn read<'a>(
+        &mut self,
+        alloc: Global,
+        variables: &Variables,
+        is_long: bool,
+        text: &[u8],
+        opens: bool,
+        behind: &'a [u8],
+    ) -> Result<(bool, &'a [u8]), LineError>
+        requires { putting.AreNoQuotes text.now }
+        ensures read { (p : State) → AreSame is_long p self.old
+            → IfOk result (λ x. IsReadOn (kept_in variables.now).values x.0 self.new x.1.now (putting.read (kept_in variables.now).values p (text.now ++ putting.quote opens ∷ behind.now))) }
+        ensures shorter { IfOk result (λ x. length x.1.now ≤ length behind.now) }
+        ensures stops { (p : State) → AreSame is_long p self.old
+            → IfErr result (λ error. Gives {X = State} (Err error) (putting.read (kept_in variables.now).values p (text.now ++ putting.quote opens ∷ behind.now))) }
+    {
+        let is_long = self.read_text(alloc, is_long, text)?;
+        if opens {
+            if let Some((name, rest)) = name_at(behind) {
+                let is_long = self.put_value(alloc, variables, is_long, name)?;
+                return Ok((is_long, rest));
+            }
+        }
+        let is_long = self.read_quote(alloc, variables, is_long, opens)?;
+        Ok((is_long, behind))
     }
 
     /// The line, where no name is open.
@@ -173,18 +215,38 @@ fn ended(line: Putting, is_long: bool) -> Result<Text, LineError>
     }
 }
 
+/// What stands before the first quote, whether that opens a name, and what stands behind it.
+fn at_quote(text: &[u8]) -> Option<(&[u8], bool, &[u8])>
+    ensures { MatchOption result (putting.AreNoQuotes text.now) (λ x. putting.IsAtQuote text.now x.0.now x.1 x.2.now) }
+{
+    match memchr::memchr2(b'`', b'\'', text) {
+        Some(place) => Some((&text[..place], text[place] == b'`', &text[place + 1..])),
+        None => None,
+    }
+}
+
+/// The name at the front that the first quote ends, and what stands behind that.
+fn name_at(text: &[u8]) -> Option<(&[u8], &[u8])>
+    ensures { MatchOption result ⊤ (λ x. putting.IsAtQuote text.now x.0.now false x.1.now) }
+{
+    match at_quote(text) {
+        Some((name, false, behind)) => Some((name, behind)),
+        _ => None,
+    }
+}
+
 /// The line with the values of variables in place of the names in quotes.
 pub fn put_in(alloc: Global, variables: &Variables, text: &[u8]) -> Result<Text, LineError>
     ensures { Gives result (putting.put_in (kept_in variables.now).values text.now) }
 {
-    values_put_in();
-    if !has_byte(text, b'`') {
-        return untouched(alloc, text);
-    }
     let mut putting = Putting::new(alloc, text.len())?;
     let mut is_long = false;
-    for byte in text {
-        is_long = putting.read(alloc, variables, is_long, *byte)?;
+    let mut rest = text;
+    while let Some((before, opens, behind)) = at_quote(rest) {
+        let (now_long, others) = putting.read(alloc, variables, is_long, before, opens, behind)?;
+        is_long = now_long;
+        rest = others;
     }
+    let is_long = putting.read_text(alloc, is_long, rest)?;
     ended(putting, is_long)
 }

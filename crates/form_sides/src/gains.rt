@@ -1,7 +1,17 @@
-//! Whether a right side is likely to be made sooner where equal terms are joined. What is answered decides how long it takes and
-//! nothing else.
+//! Right sides whose lists are likely to be made sooner where equal terms are joined. That decides how long it takes and nothing
+//! else.
+ghost use Rattle.std.specs.Prelude.{◌≡◌, IfOk, IfSome};
+ghost use Rattle.form_tree.specs.Tree.{Sum, pieces_of_sum};
+ghost use Rattle.form_expand.specs.Expanding.{list_of_sum};
+ghost use Rattle.form_joined.specs.Products.{HasList};
+ghost use Rattle.form_sides.specs.Collected.{HasTerms};
+
+use crate::sums::{sum, terms_of};
+use form_collect::Terms;
 use form_expand::Standing;
+use form_gathered::JoinedTerm;
 use form_tree::{Link, Piece};
+use std::alloc::{AllocError, Global};
 
 /// Of longer right sides nothing is seen.
 const MOST_PIECES: usize = 65_536;
@@ -13,17 +23,53 @@ const MOST_FACTORS: u32 = 64;
 /// nothing is joined.
 const FEW: u64 = 8;
 
-/// So many sums may be open at once: the right side, and one for each parenthesis and argument.
-const DEEPEST: usize = 65;
+/// So many parentheses and functions may be open at once.
+const DEEPEST: u64 = 64;
+
+/// So many sums: the right side, and one for each parenthesis and argument that is open.
+const MOST_SUMS: usize = 65;
+
+/// The list of a right side, joined, where it and each list within it has at most `limit` terms; none where that isn't likely to
+/// be made sooner, where it isn't certain that nothing in it is refused, or where too few of many terms meet.
+pub fn joined_list(
+    alloc: Global,
+    tree: &[Piece],
+    limit: u64,
+    names: &Standing,
+) -> Result<Option<Vec<JoinedTerm>>, AllocError>
+    ensures { (s : Sum) → tree.now ≡ pieces_of_sum s →
+        IfOk result (λ made. IfSome made (λ all. HasList (list_of_sum limit names.now s) all.items)) }
+{
+    if !gains_by_joining(tree, names) {
+        return Ok(None);
+    }
+    sum(alloc, tree, limit, names, DEEPEST)
+}
+
+/// What the list of a right side collects to; none where its list isn't answered, or a sum may overflow.
+pub fn joined_terms(
+    alloc: Global,
+    tree: &[Piece],
+    limit: u64,
+    names: &Standing,
+) -> Result<Option<Terms>, AllocError>
+    ensures { (s : Sum) → tree.now ≡ pieces_of_sum s →
+        IfOk result (λ made. IfSome made (HasTerms (list_of_sum limit names.now s))) }
+{
+    if !gains_by_joining(tree, names) {
+        return Ok(None);
+    }
+    terms_of(alloc, tree, limit, names, DEEPEST)
+}
 
 /// Whether a product of a right side, or of a sum in it, has three factors of several terms, powers counted, and many terms, and
 /// all of it can be joined. Of two factors each product is made once anyway.
-pub fn gains_by_joining(tree: &[Piece], names: &Standing) -> bool {
+fn gains_by_joining(tree: &[Piece], names: &Standing) -> bool {
     if tree.len() > MOST_PIECES {
         return false;
     }
     let mut look = Look {
-        sums: [Seen::nothing(); DEEPEST],
+        sums: [Seen::nothing(); MOST_SUMS],
         depth: 0,
         most: 0,
     };
@@ -39,7 +85,7 @@ pub fn gains_by_joining(tree: &[Piece], names: &Standing) -> bool {
 #[derive(Clone, Copy)]
 struct Look {
     /// The sums that are open, the outermost first.
-    sums: [Seen; DEEPEST],
+    sums: [Seen; MOST_SUMS],
     /// Which of them is the innermost.
     depth: usize,
     /// How many terms a product has that has three factors of several terms.

@@ -2,8 +2,8 @@
 //! of a power or a product of sums is made once. It is answered where it is certain that nothing in it is refused.
 //!
 //! A sum is read product by product, a product factor by factor, and sums in parentheses and arguments of functions by recursion
-//! (`sums`, `pieces`). Fronts are multiplied by the next list as joined terms (`products`). Whether that is likely to gain
-//! anything is seen of the pieces alone (`gains`).
+//! (`sums`, `pieces`). Fronts are multiplied by the next list as joined terms (`products`). Nothing is read where that isn't
+//! likely to gain anything, which is seen of the pieces alone (`gains`).
 #![tactic(auto)]
 
 mod gains;
@@ -11,5 +11,4 @@ mod pieces;
 mod products;
 mod sums;
 
-pub use gains::gains_by_joining;
-pub use sums::{joined_list, joined_terms};
+pub use gains::{joined_list, joined_terms};

@@ -1,8 +1,6 @@
 //! Sums, products, sums in parentheses and functions, read from the front.
 ghost use Rattle.std.specs.Prelude.{◌≡◌, List, IfOk, IfSome};
-ghost use Rattle.form_tree.specs.Tree.{Sum, pieces_of_sum};
 ghost use Rattle.form_tree.specs.declared.tree.Piece.{Piece as TreePiece};
-ghost use Rattle.form_expand.specs.Expanding.{list_of_sum};
 ghost use Rattle.form_expand.specs.Reading.{list_of_pieces};
 ghost use Rattle.form_expand.specs.Singles.{list_of_call};
 ghost use Rattle.form_joined.specs.Products.{HasList};
@@ -24,9 +22,6 @@ use form_term::{Arguments, Call};
 use form_tree::{Link, Piece};
 use std::alloc::{AllocError, Global};
 
-/// Within so many parentheses and functions a sum is read.
-const DEEPEST: u64 = 64;
-
 /// What came of reading a factor or a product.
 #[derive(Drop)]
 pub enum Read<'a> {
@@ -36,36 +31,9 @@ pub enum Read<'a> {
     Unknown,
 }
 
-/// The list of a right side, joined, where it and each list within it has at most `limit` terms; none where it isn't certain that
-/// nothing in it is refused, or where too few of many terms meet.
-pub fn joined_list(
-    alloc: Global,
-    tree: &[Piece],
-    limit: u64,
-    names: &Standing,
-) -> Result<Option<Vec<JoinedTerm>>, AllocError>
-    ensures { (s : Sum) → tree.now ≡ pieces_of_sum s →
-        IfOk result (λ made. IfSome made (λ all. HasList (list_of_sum limit names.now s) all.items)) }
-{
-    sum(alloc, tree, limit, names, DEEPEST)
-}
-
-/// What the list of a right side collects to; none where its list isn't answered, or a sum may overflow.
-pub fn joined_terms(
-    alloc: Global,
-    tree: &[Piece],
-    limit: u64,
-    names: &Standing,
-) -> Result<Option<Terms>, AllocError>
-    ensures { (s : Sum) → tree.now ≡ pieces_of_sum s →
-        IfOk result (λ made. IfSome made (HasTerms (list_of_sum limit names.now s))) }
-{
-    terms_of(alloc, tree, limit, names, DEEPEST)
-}
-
 /// What the list of a sum of these pieces collects to.
 #[cycle(sides)]
-fn terms_of(
+pub fn terms_of(
     alloc: Global,
     pieces: &[Piece],
     limit: u64,
@@ -87,7 +55,7 @@ fn terms_of(
 
 /// The list of a sum of these pieces. `deeper` counts down with each parenthesis.
 #[cycle(sides)]
-fn sum(
+pub fn sum(
     alloc: Global,
     pieces: &[Piece],
     limit: u64,

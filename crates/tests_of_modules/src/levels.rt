@@ -38,7 +38,13 @@ fn read(alloc: Global, texts: &[&str]) -> Result<Vec<Module>, Fail>
 fn program_of(alloc: Global, statements: &str) -> Result<Program, Fail>
     ensures { IfOk result IsSound }
 {
-    let texts = ["Symbols x, y, z;", "CFunctions f;", statements, ".end"];
+    let texts = [
+        "Symbols x, y, z;",
+        "CFunctions f;",
+        "Functions A, B;",
+        statements,
+        ".end",
+    ];
     match check(alloc, read(alloc, &texts)?) {
         Ok(program) => Ok(program),
         Err(_) => Err(Fail::from("no program is checked")),
@@ -73,6 +79,14 @@ fn statements_where_equal_terms_may_meet_go_by_levels(rt: HostRuntime) -> Result
     assert_eq!(rt; go_by_levels(alloc, "id x = y + z; id y = z;")?, true);
     assert_eq!(rt; go_by_levels(alloc, "multiply x + y; discard;")?, true);
     assert_eq!(rt;
+        go_by_levels(alloc, "multiply left, A + B; id A = B;")?,
+        true
+    );
+    assert_eq!(rt;
+        go_by_levels(alloc, "id x^y? = x + f(y); also f(z?) = z; id x = y;")?,
+        true
+    );
+    assert_eq!(rt;
         go_by_levels(alloc, "if (count(x,1) > 2); id x = y; endif; id y = z;")?,
         true
     );
@@ -85,6 +99,10 @@ fn other_statements_do_not(rt: HostRuntime) -> Result<(), Fail> {
     assert_eq!(rt; go_by_levels(alloc, "")?, false);
     assert_eq!(rt; go_by_levels(alloc, "id x = y + z;")?, false);
     assert_eq!(rt; go_by_levels(alloc, "id x = y; id y = z;")?, false);
+    assert_eq!(rt;
+        go_by_levels(alloc, "id A*B = B*A + 1; also x = y; id y = z;")?,
+        false
+    );
     assert_eq!(rt;
         go_by_levels(
             alloc,

@@ -3,7 +3,7 @@
 use form_base::Id;
 use form_frac::{Frac, Weight};
 use form_gathered::{Joined, JoinedTerm, counted, joined_inputs, together};
-use form_joined::{times_joined, times_list};
+use form_joined::{Powers, times_joined, times_list};
 use form_term::{Monomial, Power, Term};
 use std::alloc::{AllocError, Global};
 use std::test::Fail;
@@ -220,5 +220,42 @@ fn weights_and_counts_of_joined_terms_are_multiplied(rt: HostRuntime) -> Result<
         &[(1, 1, 3), (1, 1, 1), (1, 1, 1), (2, 1, 1), (2, -1, 1)],
     )?;
     assert!(rt; are_two(times_joined(alloc, fronts, &factor)?));
+    Ok(())
+}
+
+/// Behind x, the square of x + 2*y, or none where it isn't kept.
+fn square_behind(alloc: Global, room: usize) -> Result<Option<Vec<JoinedTerm>>, AllocError> {
+    let list = items(alloc, &[(0, 1, 1), (1, 2, 1)])?;
+    let mut powers = Powers::new(alloc, &list, room);
+    powers.make(&list, 1)?;
+    let front = JoinedTerm::single(item(alloc, (0, 1, 1))?);
+    let Some(power) = powers.behind(&front, 1) else {
+        return Ok(None);
+    };
+    power.times(alloc, front)
+}
+
+/// Whether these are x^3 + 4*x^2*y + 4*x*y^2.
+fn are_three(terms: &[JoinedTerm]) -> bool {
+    let four = fraction(4, 1);
+    let weight = Weight::of(four);
+    terms.len() == 3
+        && has(
+            terms,
+            &[power(0, 3)],
+            fraction(1, 1),
+            Weight::of(fraction(1, 1)),
+            1,
+        )
+        && has(terms, &[power(0, 2), power(1, 1)], four, weight, 2)
+        && has(terms, &[power(0, 1), power(1, 2)], four, weight, 1)
+}
+
+#[test]
+fn a_power_stands_behind_a_term_where_it_is_kept(rt: HostRuntime) -> Result<(), Fail> {
+    let alloc = rt.alloc();
+    let made = square_behind(alloc, 6)?.ok_or("it isn't kept")?;
+    assert!(rt; are_three(&made));
+    assert!(rt; square_behind(alloc, 5)?.is_none());
     Ok(())
 }

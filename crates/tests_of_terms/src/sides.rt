@@ -1,4 +1,5 @@
-//! Right sides with equal terms joined: their lists, what these collect to, and which of them are likely to gain by it.
+//! Right sides with equal terms joined: their lists, what these collect to, and which of them are likely to gain by it, as the
+//! others aren't answered.
 
 use crate::joined::{has, power};
 use form_base::Id;
@@ -6,7 +7,7 @@ use form_collect::{Collector, Terms};
 use form_expand::{Standing, Stored, whole_list};
 use form_frac::{Frac, Weight};
 use form_gathered::JoinedTerm;
-use form_sides::{gains_by_joining, joined_list, joined_terms};
+use form_sides::{joined_list, joined_terms};
 use form_term::{Component, Index, Monomial, Natural, Power, Term};
 use form_tree::{Link, Piece};
 use std::alloc::{AllocError, Global};
@@ -58,10 +59,10 @@ fn sum(link: Link, second: Link, power: u32) -> [Piece; 4] {
     ]
 }
 
-/// (x+y)*(x-y)
-fn conjugates(alloc: Global) -> Result<Vec<Piece>, AllocError> {
-    let mut all = Vec::from_slice(alloc, &sum(Link::Plus, Link::Plus, 1))?;
-    all.extend_from_slice(&sum(Link::Times, Link::Minus, 1))?;
+/// x + y to a power times x - y to the same one.
+fn conjugates(alloc: Global, power: u32) -> Result<Vec<Piece>, AllocError> {
+    let mut all = Vec::from_slice(alloc, &sum(Link::Plus, Link::Plus, power))?;
+    all.extend_from_slice(&sum(Link::Times, Link::Minus, power))?;
     Ok(all)
 }
 
@@ -96,40 +97,49 @@ fn is_joined(
 #[test]
 fn terms_of_a_product_meet_and_those_that_cancel_stay(rt: HostRuntime) -> Result<(), Fail> {
     let alloc = rt.alloc();
-    let (x, y) = (power(0, 1), power(1, 1));
-    let rows: [Row; 3] = [
-        (&[power(0, 2)], 1, 1, 1),
-        (&[x, y], 0, 2, 2),
-        (&[power(1, 2)], -1, 1, 1),
+    let rows: [Row; 7] = [
+        (&[power(0, 6)], 1, 1, 1),
+        (&[power(0, 5), power(1, 1)], 0, 6, 6),
+        (&[power(0, 4), power(1, 2)], -3, 15, 15),
+        (&[power(0, 3), power(1, 3)], 0, 20, 20),
+        (&[power(0, 2), power(1, 4)], 3, 15, 15),
+        (&[power(0, 1), power(1, 5)], 0, 6, 6),
+        (&[power(1, 6)], -1, 1, 1),
     ];
-    assert!(rt; is_joined(alloc, &conjugates(alloc)?, 4, &rows)?);
+    assert!(rt; is_joined(alloc, &conjugates(alloc, 3)?, 64, &rows)?);
     Ok(())
 }
 
 #[test]
 fn terms_of_a_power_meet_behind_a_minus_sign(rt: HostRuntime) -> Result<(), Fail> {
     let alloc = rt.alloc();
-    let rows: [Row; 4] = [
-        (&[power(0, 3)], -1, 1, 1),
-        (&[power(0, 2), power(1, 1)], -3, 3, 3),
-        (&[power(0, 1), power(1, 2)], -3, 3, 3),
-        (&[power(1, 3)], -1, 1, 1),
+    let rows: [Row; 6] = [
+        (&[power(0, 5)], -1, 1, 1),
+        (&[power(0, 4), power(1, 1)], -5, 5, 5),
+        (&[power(0, 3), power(1, 2)], -10, 10, 10),
+        (&[power(0, 2), power(1, 3)], -10, 10, 10),
+        (&[power(0, 1), power(1, 4)], -5, 5, 5),
+        (&[power(1, 5)], -1, 1, 1),
     ];
-    assert!(rt; is_joined(alloc, &sum(Link::Minus, Link::Plus, 3), 8, &rows)?);
+    assert!(rt; is_joined(alloc, &sum(Link::Minus, Link::Plus, 5), 32, &rows)?);
     Ok(())
 }
 
 #[test]
 fn terms_of_products_in_a_sum_meet(rt: HostRuntime) -> Result<(), Fail> {
     let alloc = rt.alloc();
-    let mut pieces = Vec::from_slice(alloc, &sum(Link::Plus, Link::Minus, 2))?;
-    pieces.extend_from_slice(&[stored(Link::Minus, 1), symbol(Link::Times, 1, 1)])?;
-    let rows: [Row; 3] = [
-        (&[power(0, 2)], 1, 1, 1),
-        (&[power(0, 1), power(1, 1)], -3, 3, 3),
-        (&[power(1, 2)], 3, 3, 2),
+    let mut pieces = Vec::from_slice(alloc, &sum(Link::Plus, Link::Minus, 6))?;
+    pieces.extend_from_slice(&[stored(Link::Minus, 5), symbol(Link::Times, 1, 1)])?;
+    let rows: [Row; 7] = [
+        (&[power(0, 6)], 1, 1, 1),
+        (&[power(0, 5), power(1, 1)], -7, 7, 7),
+        (&[power(0, 4), power(1, 2)], 25, 25, 20),
+        (&[power(0, 3), power(1, 3)], -60, 60, 30),
+        (&[power(0, 2), power(1, 4)], 95, 95, 25),
+        (&[power(0, 1), power(1, 5)], -86, 86, 11),
+        (&[power(1, 6)], 33, 33, 2),
     ];
-    assert!(rt; is_joined(alloc, &pieces, 6, &rows)?);
+    assert!(rt; is_joined(alloc, &pieces, 96, &rows)?);
     Ok(())
 }
 
@@ -146,52 +156,63 @@ fn function_of(alloc: Global, argument: &[Piece], power: u32) -> Result<Vec<Piec
     Ok(all)
 }
 
-/// One factor of each kind, without parentheses.
+/// The square of a function that doesn't commute, of an index and a vector.
+fn word(link: Link) -> [Piece; 4] {
+    [
+        Piece::Function {
+            link,
+            function: Id::new(6),
+            is_commuting: false,
+        },
+        Piece::Index(Index::Declared(Id::new(4))),
+        Piece::Vector(Id::new(5)),
+        Piece::EndOfFunction { power: 2 },
+    ]
+}
+
+/// A dot product, a component and a delta, to powers.
+fn tensors(link: Link) -> [Piece; 3] {
+    [
+        Piece::Dot {
+            link,
+            left: Id::new(5),
+            right: Id::new(5),
+            power: -1,
+        },
+        Piece::Component {
+            link,
+            component: Component {
+                vector: Id::new(5),
+                index: Index::Fixed(3),
+            },
+            power: 2,
+        },
+        Piece::Delta {
+            link,
+            first: Index::Declared(Id::new(4)),
+            second: Index::Fixed(1),
+            power: 2,
+        },
+    ]
+}
+
+/// One factor of each kind, without parentheses, of which the terms of an expression stand seven times.
 fn kinds(alloc: Global) -> Result<Vec<Piece>, AllocError> {
-    Vec::from_slice(
-        alloc,
-        &[
-            Piece::Number {
-                link: Link::Minus,
-                value: Natural::new(3),
-                power: -2,
-            },
-            symbol(Link::Times, 1, -2),
-            stored(Link::Times, 2),
-            Piece::Imaginary {
-                link: Link::Times,
-                power: 3,
-            },
-            Piece::Dot {
-                link: Link::Times,
-                left: Id::new(5),
-                right: Id::new(5),
-                power: -1,
-            },
-            Piece::Component {
-                link: Link::Times,
-                component: Component {
-                    vector: Id::new(5),
-                    index: Index::Fixed(3),
-                },
-                power: 2,
-            },
-            Piece::Delta {
-                link: Link::Times,
-                first: Index::Declared(Id::new(4)),
-                second: Index::Fixed(1),
-                power: 2,
-            },
-            Piece::Function {
-                link: Link::Times,
-                function: Id::new(6),
-                is_commuting: false,
-            },
-            Piece::Index(Index::Declared(Id::new(4))),
-            Piece::Vector(Id::new(5)),
-            Piece::EndOfFunction { power: 2 },
-        ],
-    )
+    let number = Piece::Number {
+        link: Link::Minus,
+        value: Natural::new(3),
+        power: -2,
+    };
+    let imaginary = Piece::Imaginary {
+        link: Link::Times,
+        power: 3,
+    };
+    let others = [symbol(Link::Times, 1, -2), stored(Link::Times, 7)];
+    let mut all = Vec::from_slice(alloc, &[number, imaginary])?;
+    all.extend_from_slice(&others)?;
+    all.extend_from_slice(&tensors(Link::Times))?;
+    all.extend_from_slice(&word(Link::Times))?;
+    Ok(all)
 }
 
 /// What the terms that are made one by one collect to; none where one is refused, or their sums are.
@@ -238,14 +259,14 @@ fn collect_to(alloc: Global, pieces: &[Piece], count: usize) -> Result<bool, All
 #[test]
 fn terms_that_cancel_are_not_collected(rt: HostRuntime) -> Result<(), Fail> {
     let alloc = rt.alloc();
-    assert!(rt; collect_to(alloc, &conjugates(alloc)?, 2)?);
+    assert!(rt; collect_to(alloc, &conjugates(alloc, 3)?, 4)?);
     Ok(())
 }
 
 #[test]
 fn arguments_are_collected(rt: HostRuntime) -> Result<(), Fail> {
     let alloc = rt.alloc();
-    let inner = function_of(alloc, &conjugates(alloc)?, 2)?;
+    let inner = function_of(alloc, &conjugates(alloc, 4)?, 2)?;
     assert!(rt; collect_to(alloc, &function_of(alloc, &inner, 1)?, 1)?);
     Ok(())
 }
@@ -253,7 +274,7 @@ fn arguments_are_collected(rt: HostRuntime) -> Result<(), Fail> {
 #[test]
 fn factors_of_each_kind_are_joined(rt: HostRuntime) -> Result<(), Fail> {
     let alloc = rt.alloc();
-    assert!(rt; collect_to(alloc, &kinds(alloc)?, 3)?);
+    assert!(rt; collect_to(alloc, &kinds(alloc)?, 8)?);
     Ok(())
 }
 
@@ -268,39 +289,41 @@ fn is_unknown(alloc: Global, pieces: &[Piece], limit: u64) -> Result<bool, Alloc
 #[test]
 fn a_list_over_its_limit_is_unknown(rt: HostRuntime) -> Result<(), Fail> {
     let alloc = rt.alloc();
-    assert!(rt; is_unknown(alloc, &conjugates(alloc)?, 3)?);
-    assert!(rt; is_unknown(alloc, &sum(Link::Plus, Link::Plus, 3), 7)?);
-    assert!(rt; is_unknown(alloc, &[stored(Link::Plus, 1)], 1)?);
+    assert!(rt; is_unknown(alloc, &conjugates(alloc, 3)?, 63)?);
+    assert!(rt; is_unknown(alloc, &sum(Link::Plus, Link::Plus, 5), 31)?);
+    assert!(rt; is_unknown(alloc, &[stored(Link::Plus, 3)], 7)?);
     Ok(())
 }
 
-/// x + y or x times a power of y, squared.
-fn with_large_power(link: Link, power: i32) -> [Piece; 4] {
+/// x, plus or times a power of y, and z behind it: all of this six times.
+fn with_large_power(link: Link, power: i32) -> [Piece; 5] {
     [
         Piece::Open { link: Link::Plus },
         symbol(Link::Plus, 0, 1),
         symbol(link, 1, power),
-        Piece::Close { power: 2 },
+        symbol(Link::Plus, 2, 1),
+        Piece::Close { power: 6 },
     ]
 }
 
 #[test]
 fn what_is_refused_is_unknown(rt: HostRuntime) -> Result<(), Fail> {
     let alloc = rt.alloc();
-    assert!(rt; is_unknown(alloc, &with_large_power(Link::Plus, 500_000_001), LARGE)?);
-    assert!(rt; is_unknown(alloc, &with_large_power(Link::Times, 500_000_001), LARGE)?);
-    assert!(rt; collect_to(alloc, &with_large_power(Link::Plus, 500_000_000), 3)?);
+    assert!(rt; is_unknown(alloc, &with_large_power(Link::Plus, 166_666_667), LARGE)?);
+    assert!(rt; is_unknown(alloc, &with_large_power(Link::Times, 166_666_667), LARGE)?);
+    assert!(rt; collect_to(alloc, &with_large_power(Link::Plus, 166_666_666), 28)?);
+    assert!(rt; collect_to(alloc, &with_large_power(Link::Times, 166_666_666), 7)?);
     Ok(())
 }
 
-/// x within so many parentheses.
+/// A power of x + y within so many parentheses, its own ones counted.
 fn nested(alloc: Global, depth: usize) -> Result<Vec<Piece>, AllocError> {
     let mut all = Vec::new(alloc);
-    for _open in 0..depth {
+    for _open in 1..depth {
         all.extend_from_slice(&[Piece::Open { link: Link::Plus }])?;
     }
-    all.extend_from_slice(&[symbol(Link::Plus, 0, 1)])?;
-    for _close in 0..depth {
+    all.extend_from_slice(&sum(Link::Plus, Link::Plus, 11))?;
+    for _close in 1..depth {
         all.extend_from_slice(&[Piece::Close { power: 1 }])?;
     }
     Ok(all)
@@ -309,7 +332,7 @@ fn nested(alloc: Global, depth: usize) -> Result<Vec<Piece>, AllocError> {
 #[test]
 fn sums_within_64_parentheses_are_joined(rt: HostRuntime) -> Result<(), Fail> {
     let alloc = rt.alloc();
-    assert!(rt; collect_to(alloc, &nested(alloc, 64)?, 1)?);
+    assert!(rt; collect_to(alloc, &nested(alloc, 64)?, 12)?);
     assert!(rt; is_unknown(alloc, &nested(alloc, 65)?, LARGE)?);
     Ok(())
 }
@@ -329,34 +352,35 @@ fn put_wide(
     all.extend_from_slice(&[Piece::Close { power }])
 }
 
-/// The product of two sums of so many symbols that have none in common.
+/// The product of three sums of so many symbols that have none in common.
 fn apart(alloc: Global, count: u32) -> Result<Vec<Piece>, AllocError> {
     let mut all = Vec::new(alloc);
     put_wide(&mut all, Link::Plus, 0, count, 1)?;
-    put_wide(&mut all, Link::Times, 128, count, 1)?;
+    put_wide(&mut all, Link::Times, 32, count, 1)?;
+    put_wide(&mut all, Link::Times, 64, count, 1)?;
     Ok(all)
 }
 
 #[test]
-fn many_products_are_joined_where_half_meet(rt: HostRuntime) -> Result<(), Fail> {
+fn many_products_are_joined_where_most_meet(rt: HostRuntime) -> Result<(), Fail> {
     let alloc = rt.alloc();
     let mut pieces = Vec::new(alloc);
-    put_wide(&mut pieces, Link::Plus, 0, 128, 2)?;
-    assert!(rt; collect_to(alloc, &pieces, 8_256)?);
+    put_wide(&mut pieces, Link::Plus, 0, 26, 3)?;
+    assert!(rt; collect_to(alloc, &pieces, 3_276)?);
     Ok(())
 }
 
 #[test]
 fn many_products_are_unknown_where_none_meet(rt: HostRuntime) -> Result<(), Fail> {
     let alloc = rt.alloc();
-    assert!(rt; is_unknown(alloc, &apart(alloc, 128)?, LARGE)?);
-    assert!(rt; collect_to(alloc, &apart(alloc, 127)?, 16_129)?);
+    assert!(rt; is_unknown(alloc, &apart(alloc, 26)?, LARGE)?);
+    assert!(rt; collect_to(alloc, &apart(alloc, 25)?, 15_625)?);
     Ok(())
 }
 
-/// Whether these pieces are said to gain.
+/// Whether what these pieces collect to is answered.
 fn gain(alloc: Global, pieces: &[Piece]) -> Result<bool, AllocError> {
-    Ok(gains_by_joining(pieces, &standing(alloc)?))
+    Ok(joined_terms(alloc, pieces, LARGE, &standing(alloc)?)?.is_some())
 }
 
 #[test]
@@ -367,7 +391,7 @@ fn powers_and_products_of_many_terms_gain(rt: HostRuntime) -> Result<(), Fail> {
     assert!(rt; !gain(alloc, &sum(Link::Plus, Link::Plus, 65))?);
     assert!(rt; gain(alloc, &[stored(Link::Plus, 2), stored(Link::Times, 2)])?);
     assert!(rt; !gain(alloc, &[stored(Link::Plus, 2), stored(Link::Minus, 2)])?);
-    assert!(rt; !gain(alloc, &conjugates(alloc)?)?);
+    assert!(rt; !gain(alloc, &conjugates(alloc, 1)?)?);
     Ok(())
 }
 

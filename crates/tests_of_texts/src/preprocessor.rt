@@ -55,3 +55,12 @@ fn texts_are_included_and_procedures_called(rt: HostRuntime) -> Result<(), Fail>
     assert!(rt; found.as_str() == "0:4 Local F1 = 2;\n0:4 Local F2 = 3;\n1:4 Print 7;\n1:6 .end\n");
     Ok(())
 }
+
+#[test]
+fn braces_of_a_loop_are_a_list_or_calculated(rt: HostRuntime) -> Result<(), Fail> {
+    let file =
+        "#do a{1}={3}\nx`a1'\n#enddo\n#do n{1+1} = {{1+1},3}\ny`n2'\n#enddo\n#do i={1+1},3\nz`i'\n#enddo\n.end\n";
+    let found = expanded(rt.alloc(), file, "none.h", "")?;
+    assert!(rt; found.as_str() == "0:2 x3\n0:5 y2\n0:5 y3\n0:8 z2\n0:8 z3\n0:10 .end\n");
+    Ok(())
+}

@@ -1,6 +1,9 @@
-use Rattle.std.proofs.Common.{◌≡◌, drop}
-use Rattle.form_preproc.specs.Braces.{read, begun}
+use Rattle.std.proofs.Common.{length}
+use Rattle.form_preproc.proofs.Calculations.{IsDoneTo}
 use Rattle.form_preproc.proofs.braces.calculated.Given as goal
 
-abbrev pub invariant-loop-byte : goal.invariant-loop-byte
-invariant-loop-byte l = read begun l.text ≡ read l.braces (drop l.byte-index l.text)
+abbrev pub invariant-loop-before : goal.invariant-loop-before
+invariant-loop-before l = IsDoneTo l.text l.done l.rest
+
+abbrev pub decreases-loop-before : goal.decreases-loop-before
+decreases-loop-before l = length l.rest

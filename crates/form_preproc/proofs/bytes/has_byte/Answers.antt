@@ -1,5 +1,5 @@
 use Rattle.std.proofs.Common.{◌∙◌}
-use Rattle.form_preproc.proofs.Holding.{holds}
+use Rattle.form_preproc.proofs.Splits.{holds}
 use Rattle.form_preproc.proofs.bytes.has_byte.Goals as goal
 
 pub returns : goal.returns

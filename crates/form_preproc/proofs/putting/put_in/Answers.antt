@@ -1,29 +1,25 @@
-use Rattle.std.proofs.Common.{◌≡◌, ◌+◌, suc, subst, sym, arith, drop}
-use Rattle.std.proofs.lemmas.List.{drop_all}
+use Rattle.std.proofs.Common.{sym, subst}
 use Rattle.std.proofs.lemmas.Result.{err_from_is_err_and}
 use Rattle.form_preproc.specs.Kept.{kept_in}
 use Rattle.form_preproc.specs.Answers.{Gives}
-use Rattle.form_preproc.proofs.Reading.{IsReadTo, read_further, read_stops, read_all}
+use Rattle.form_preproc.specs.Putting.{with_text}
+use Rattle.form_preproc.proofs.Reading.{read_further, read_stops, read_all}
 use Rattle.form_preproc.proofs.putting.put_in.Goals as goal
 
-pub returns-in_err-is_long : goal.returns-in_err-is_long
-returns-in_err-is_long c =
-    let h = c.loop-byte.invariant in
-    let p = err_from_is_err_and c.from_residual-in_err-is_long.result c.from_residual-in_err-is_long.ensures.1 in
-    rw (p.1, p.2) (read_stops (kept_in c.args.variables.now).values c.args.text.now c.loop-byte.byte-index c.loop-byte.is_long c.loop-byte.putting c.read.new.self c.in_err-is_long.field-0.0 h c.loop-byte-test.true (c.in_err-is_long.ensures h.line h.same))
+pub loop-before-preserved : goal.loop-before-preserved
+loop-before-preserved c =
+    let h = c.loop-before.invariant in
+    read_further (kept_in c.args.variables.now).values c.args.text.now c.loop-before.rest.now c.in_ok-now_long.others.now c.loop-before.is_long c.in_ok-now_long.now_long c.loop-before.putting c.read.new.self _ h c.in-Some.ensures.0
+    (c.in_ok-now_long.ensures.read h.line h.same)
 
-pub loop-byte-preserved : goal.loop-byte-preserved
-loop-byte-preserved c =
-    let h = c.loop-byte.invariant in
-    let values = (kept_in c.args.variables.now).values in
-    let i = c.loop-byte.byte-index in
-    let r = c.in_ok-is_long.ensures h.line h.same in
-    let next : suc i ≡ i + 1 = omega arith in
-    subst (λ k. IsReadTo values c.args.text.now (drop k c.args.text.now) c.in_ok-is_long.is_long c.read.new.self) next
-    (read_further values c.args.text.now i c.loop-byte.is_long c.in_ok-is_long.is_long c.loop-byte.putting c.read.new.self r.0 h c.loop-byte-test.true r.1 r.2)
+pub returns-in_err-now_long : goal.returns-in_err-now_long
+returns-in_err-now_long c =
+    let h = c.loop-before.invariant in
+    let p = err_from_is_err_and c.from_residual-in_err-now_long.result c.from_residual-in_err-now_long.ensures.1 in
+    rw (p.1, p.2) (read_stops (kept_in c.args.variables.now).values c.args.text.now c.loop-before.rest.now _ c.loop-before.is_long c.loop-before.putting c.in_err-now_long.field-0.0 h c.in-Some.ensures.0 (c.in_err-now_long.ensures.stops h.line h.same))
 
 pub returns : goal.returns
 returns c =
-    let h = c.loop-byte.invariant in
-    subst (Gives c.ended.result) (sym (read_all (kept_in c.args.variables.now).values c.args.text.now (drop c.loop-byte.byte-index c.args.text.now) c.loop-byte.is_long c.loop-byte.putting h (drop_all c.loop-byte.byte-index c.args.text.now c.loop-byte-test.false)))
-    (c.ended.ensures h.line h.same)
+    let h = c.loop-before.invariant in
+    subst (Gives c.ended.result) (sym (read_all (kept_in c.args.variables.now).values c.args.text.now c.loop-before.rest.now c.loop-before.is_long c.loop-before.putting h c.in_default.ensures))
+    (c.ended.ensures (with_text h.line c.loop-before.rest.now) (c.in_ok-is_long.ensures h.line h.same))

@@ -1,34 +1,35 @@
-use Rattle.std.proofs.Common.{◌≡◌, List, [], Option, map, refl, ap, rules}
-use Rattle.std.specs.Vec.Iter.{into_iter_items}
-use Rattle.form_term.specs.declared.monomial.Monomial.{Monomial}
-use Rattle.form_expand.specs.Walks.{all_of}
-use Rattle.form_flow.proofs.Behind.{nothing_left}
-use Rattle.form_levels.specs.Stretches.{before_each, list_if}
-use Rattle.form_levels.proofs.Unbound.{all_come, come_on, row_made}
+use Rattle.std.proofs.Common.{◌+◌, [], drop, map, refl}
+use Rattle.std.proofs.lemmas.List.{drop_all}
+use Rattle.form_expand.proofs.Places.{drop_here}
+use Rattle.form_levels.specs.Becoming.{put_named}
+use Rattle.form_levels.specs.Stretches.{with_each, with_origin}
+use Rattle.form_levels.proofs.Becoming.{all_come, come_on, row_made}
 use Rattle.form_levels.proofs.rewriting.Rule.between.Goals as goal
 
 pub loop-stretch-init : goal.loop-stretch-init
-loop-stretch-init c =
-    let same : into_iter_items c.into_iter-stretch-iterator.result ≡ c.args.stretches.items = search rules in
-    record {
-      lists = [];
-      so_far = ap (λ (xs : List (Option Monomial)). before_each (all_of c.args.self.now.list.now) (map list_if xs)) same;
-      fronts = c.in_ok-fronts.ensures.fronts c.args.front refl;
-      limit = c.in_ok-fronts.ensures.limit;
-    }
+loop-stretch-init c = record {
+  lists = [];
+  so_far = refl;
+  fronts = c.in_ok-fronts.ensures.fronts c.args.front refl;
+  limit = c.in_ok-fronts.ensures.limit;
+}
 
 pub loop-stretch-preserved : goal.loop-stretch-preserved
 loop-stretch-preserved c =
+    let r = c.args.self.now in
     let j = c.args.front in
+    let all = c.args.stretches.now in
+    let i = c.loop-stretch.stretch-index in
     let so_far = c.loop-stretch.invariant in
-    come_on c.args.self.now.limit (all_of c.args.self.now.list.now) j c.args.stretches.items (into_iter_items c.loop-stretch.stretch-iterator) (into_iter_items c.next.new.self) c.in-Some.stretch
-    c.loop-stretch.fronts c.in-Some-2.more c.in-Some.ensures.steps.0 so_far (rw c.in-Some-2.is at c.in_ok-more.ensures.fronts j.term so_far.lists j so_far.fronts) (rw c.in-Some-2.is at c.in_ok-more.ensures.limit)
+    come_on r.limit (put_named r c.args.names.now) j all (drop i all) (drop (i + 1) all) c.stretch-item.result c.loop-stretch.fronts c.in-Some.more
+    (drop_here all i c.stretch-item.result c.loop-stretch-test.true c.stretch-item.is) so_far
+    (rw c.in-Some.is at c.in_ok-more.ensures.fronts j.term so_far.lists j so_far.fronts) (rw c.in-Some.is at c.in_ok-more.ensures.limit)
 
 pub returns : goal.returns
 returns c =
-    let max = c.args.self.now.limit in
-    let list = all_of c.args.self.now.list.now in
+    let r = c.args.self.now in
+    let put = put_named r c.args.names.now in
     let j = c.args.front in
-    let all = c.args.stretches.items in
-    row_made max (before_each list (map list_if all)) j c.loop-stretch.fronts c.into_vec.result.items c.loop-stretch.invariant.limit
-    (all_come max list j all (into_iter_items c.loop-stretch.stretch-iterator) c.loop-stretch.fronts (nothing_left c.loop-stretch.stretch-iterator c.in-None.ensures.steps.0) c.loop-stretch.invariant) c.into_vec.ensures
+    let all = c.args.stretches.now in
+    row_made r.limit (with_each put (map with_origin all)) j c.loop-stretch.fronts c.into_vec.result.items c.loop-stretch.invariant.limit
+    (all_come r.limit put j all (drop c.loop-stretch.stretch-index all) c.loop-stretch.fronts (drop_all c.loop-stretch.stretch-index all c.loop-stretch-test.false) c.loop-stretch.invariant) c.into_vec.ensures

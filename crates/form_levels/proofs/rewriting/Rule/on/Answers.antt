@@ -8,11 +8,11 @@ use Rattle.form_flow.proofs.GivenCuts.{cuts_stay}
 use Rattle.form_flow.proofs.Resting.{part_takes}
 use Rattle.form_levels.specs.Becoming.{joined_by, known_of}
 use Rattle.form_levels.specs.Rules.{IsRewritten}
-use Rattle.form_levels.proofs.Unbound.{stays}
+use Rattle.form_levels.proofs.Becoming.{stays}
 use Rattle.form_levels.proofs.rewriting.Rule.on.Goals as goal
 
-pub returns-in-Untaken : goal.returns-in-Untaken
-returns-in-Untaken c = λ at limit.
+pub returns-in-Untaken-clause-rewritten : goal.returns-in-Untaken-clause-rewritten
+returns-in-Untaken-clause-rewritten c = λ at limit.
     let p = c.args.self.now.part.now in
     let j = c.args.joined in
     stays at c.args.self.now.limit p j c.with.result limit
@@ -20,26 +20,26 @@ returns-in-Untaken c = λ at limit.
     (λ fs e. sym (ap taken_in c.in-Untaken.is) ∙ c.in_ok-term.ensures.taken fs e))
     (ap (joined_by (known_of j)) (sym (c.in_ok-term.ensures.untaken c.in-Untaken.term (ap Ok c.in-Untaken.is))) ∙ sym c.with.ensures)
 
-pub returns-in-Single : goal.returns-in-Single
-returns-in-Single c = λ at limit.
+pub returns-in-Single-clause-rewritten : goal.returns-in-Single-clause-rewritten
+returns-in-Single-clause-rewritten c = λ at limit.
     let p = c.args.self.now.part.now in
     let j = c.args.joined in
     let one = c.in-Single.single in
-    IfOk-weaker c.on_single.result _ (IsRewritten at p j)
+    IfOk-weaker c.on_single.result _ (IsRewritten at (p ∷ []) j)
     (λ made becomes. becomes at j limit refl
     (part_takes c.args.self.now.limit (untouched j.term) p c.pattern-pattern.result.now c.option-option.result [] (Some (taken_so_far one.left [] (one.bindings ∷ []) 1)) refl c.pattern-pattern.ensures c.option-option.ensures
     (λ fs e. sym (ap taken_in c.in-Single.is) ∙ c.in_ok-term.ensures.taken fs e)))
     c.on_single.ensures
 
-pub returns-in-Several : goal.returns-in-Several
-returns-in-Several c = λ at limit.
+pub returns-in-Several-clause-rewritten : goal.returns-in-Several-clause-rewritten
+returns-in-Several-clause-rewritten c = λ at limit.
     let p = c.args.self.now.part.now in
     let j = c.args.joined in
-    IfOk-weaker c.on_taken.result _ (IsRewritten at p j)
+    IfOk-weaker c.on_taken.result _ (IsRewritten at (p ∷ []) j)
     (λ made becomes. becomes at j limit refl
     (part_takes c.args.self.now.limit (untouched j.term) p c.pattern-pattern.result.now c.option-option.result [] (Some c.in-Several.taken) refl c.pattern-pattern.ensures c.option-option.ensures
     (λ fs e. sym (ap taken_in c.in-Several.is) ∙ c.in_ok-term.ensures.taken fs e)))
-    c.on_taken.ensures
+    c.on_taken.ensures.becomes
 
 pub on_taken-requires-clause-uncut : goal.on_taken-requires-clause-uncut
 on_taken-requires-clause-uncut c =

@@ -1,0 +1,4 @@
+pub mod InARow
+pub mod Often
+pub mod Reaching
+pub mod Within
