@@ -9,6 +9,7 @@ pub mod Dummies
 pub mod Factored
 pub mod Finishing
 pub mod Firsts
+pub mod Following
 pub mod FreeNumbers
 pub mod GivenCuts
 pub mod Giving

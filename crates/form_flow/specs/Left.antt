@@ -1,5 +1,5 @@
 -- What a term has left while its outputs are taken, one by one.
-use Rattle.std.specs.Prelude.{◌≡◌, ◌-◌, [], false, List, fold, Option, Some, None, Result, Ok, Err}
+use Rattle.std.specs.Prelude.{◌≡◌, ◌-◌, [], false, List, fold, Option, Some, None, Result, Ok, Err, is_some, IsTrue, ⊤}
 use Rattle.form_base.specs.declared.cause.Cause.{Cause}
 use Rattle.form_term.specs.declared.monomial.Monomial.{Monomial}
 use Rattle.form_expand.specs.declared.error.ExpandError.{ExpandError}
@@ -11,7 +11,7 @@ use Rattle.form_flow.specs.declared.descent.Frame.{Frame}
 use Rattle.form_flow.specs.declared.descent.Step.{Step}
 use Rattle.form_flow.specs.declared.descent.Step.TheVariants as step
 use Rattle.form_flow.specs.declared.outputs.Outputs.{Outputs}
-use Rattle.form_flow.specs.Outcome.{Outcome, acted_or_not, and_then, bind, end_of, gone, listing_of, refusal, silent, unchanged}
+use Rattle.form_flow.specs.Outcome.{Outcome, acted_or_not, and_then, bind, cause_of, end_of, gone, listing_of, refusal, silent, unchanged}
 use Rattle.form_flow.specs.Paths.{ways}
 use Rattle.form_flow.specs.Sources.{listed}
 use Rattle.form_flow.specs.Statement.{Limits}
@@ -113,3 +113,20 @@ abbrev pub Gives : Result (Option Monomial) ExpandError → Outcome → Descent 
 Gives (Ok (Some m)) old new = old ≡ and_then (unchanged m) (left new)
 Gives (Ok None) old new = (old ≡ silent new.has_acted) × (left new ≡ silent new.has_acted)
 Gives (Err e) old new = Refuses e old
+
+-- a term that goes on, and what is left then ends as it did; or a refusal at its end
+abbrev pub Follows : Result (Option Monomial) ExpandError → Outcome → Descent → Type 0
+Follows (Ok (Some m)) old new = (cause_of old.end ≡ cause_of (on_way m new).end) × (new.first ≡ None)
+Follows (Ok None) old new = Unit {0}
+Follows (Err (Refused cause)) old new = cause_of old.end ≡ Some cause
+Follows (Err Memory) old new = Unit {0}
+
+-- a refusal that was met ahead is the end
+abbrev pub Foresees : Result ⊤ ExpandError → Outcome → Type 0
+Foresees (Ok _) o = Unit {0}
+Foresees (Err (Refused cause)) o = cause_of o.end ≡ Some cause
+Foresees (Err Memory) o = Unit {0}
+
+-- a list that is refused, at once or behind its terms
+abbrev pub IsRefused : Listing → Type 0
+IsRefused l = IsTrue (is_some l.end)

@@ -7,7 +7,7 @@ ghost use Rattle.std.specs.Prelude.{◌≡◌, ℕ, ◌*◌, ◌≤◌, [], fals
 ghost use Rattle.form_expand.specs.Listing.{Listing};
 ghost use Rattle.form_flow.specs.Arguments.{in_arguments as in_arguments_of};
 ghost use Rattle.form_flow.specs.Frames.{Advances, Takes, TakesFrame, TakesLast};
-ghost use Rattle.form_flow.specs.Left.{Begins, Gives, Moves, Passes, Steps, going, left, left_of_frame, limits_of, now, on_way, pending, step_of};
+ghost use Rattle.form_flow.specs.Left.{Begins, Follows, Foresees, Gives, Moves, Passes, Steps, going, left, left_of_frame, limits_of, now, on_way, pending, step_of};
 ghost use Rattle.form_flow.specs.Nearing.{Ends, IsMost, Lessens, Nears, Spends, Starts, Waits, ahead, two_to, waiting_ahead, way_weight};
 ghost use Rattle.form_flow.specs.Outcome.{Outcome, and_then, made, turns, without_marks};
 ghost use Rattle.form_flow.specs.Paths.{ways};
@@ -111,6 +111,39 @@ impl<'m, 'a> Descent<'m, 'a> {
                 Ok(None) => {}
                 Err(error) => return Err(error),
             }
+        }
+    }
+
+    /// Goes so many steps ahead at most, which are counted down: a refusal that these come to stands at the end of what is left.
+    pub fn go_ahead(&mut self, alloc: Global, steps: &mut u32) -> Result<(), ExpandError>
+        ensures { Foresees result (left self.old) }
+    {
+        let mut item = match self.next_waiting(alloc) {
+            Ok(Some(first)) => first,
+            Ok(None) => return Ok(()),
+            Err(error) => return Err(error),
+        };
+        while *steps > 0 {
+            *steps -= 1;
+            item = match self.follow(alloc, item) {
+                Ok(Some(next)) => next,
+                Ok(None) => return Ok(()),
+                Err(error) => return Err(error),
+            };
+        }
+        Ok(())
+    }
+
+    /// A step of a term on its way, and the term that is on its way then; outputs are passed over.
+    fn follow(&mut self, alloc: Global, item: Monomial) -> Result<Option<Monomial>, ExpandError>
+        requires { self.old.first ≡ None }
+        ensures { Follows result (on_way item self.old) self.new }
+    {
+        match self.step(alloc, item) {
+            Ok(Step::On(next)) => Ok(Some(next)),
+            Ok(Step::Out(_)) => self.next_waiting(alloc),
+            Ok(Step::Gone) => self.next_waiting(alloc),
+            Err(error) => Err(error),
         }
     }
 

@@ -1,8 +1,9 @@
 //! The outputs of a term, no more than a limit.
-ghost use Rattle.std.specs.Prelude.{◌≡◌, ◌-◌};
+ghost use Rattle.std.specs.Prelude.{◌≡◌, ◌-◌, IfOk};
+ghost use Rattle.std.specs.Bool.{OnTrue};
 ghost use Rattle.form_expand.specs.Listing.{before, limited};
 ghost use Rattle.form_expand.specs.Next.{Gives as GivesNext};
-ghost use Rattle.form_flow.specs.Left.{left, outputs_left};
+ghost use Rattle.form_flow.specs.Left.{IsRefused, left, outputs_left};
 ghost use Rattle.form_flow.specs.Outcome.{listing_of};
 ghost use Rattle.form_flow.specs.Statements.{run};
 
@@ -11,7 +12,7 @@ use crate::descent::Descent;
 use form_base::Cause;
 use form_expand::ExpandError;
 use form_term::Monomial;
-use std::alloc::Global;
+use std::alloc::{AllocError, Global};
 
 /// What a term becomes, one by one: in a clause `outputs_left` says what is left.
 pub struct Outputs<'m, 'a> {
@@ -57,6 +58,17 @@ impl<'m, 'a> Outputs<'m, 'a> {
             Ok(Some(item)) => self.give(item),
             Ok(None) => Ok(None),
             Err(error) => Err(error),
+        }
+    }
+
+    /// Whether so many steps come to a refusal; those that are taken are counted down. Then no output is asked for any more.
+    pub fn are_refused_ahead(&mut self, alloc: Global, steps: &mut u32) -> Result<bool, AllocError>
+        ensures { IfOk result (λ refused. OnTrue refused (IsRefused (outputs_left self.old))) }
+    {
+        match self.descent.go_ahead(alloc, steps) {
+            Ok(()) => Ok(false),
+            Err(ExpandError::Refused(_)) => Ok(true),
+            Err(ExpandError::Memory) => Err(AllocError),
         }
     }
 

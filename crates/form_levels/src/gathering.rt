@@ -24,6 +24,12 @@ pub(crate) fn go_by_levels(compiled: &CompiledModule) -> bool
     are_known(compiled.block().as_slice())
 }
 
+/// Whether one of the statements is repeated, or may be.
+pub(crate) fn repeats(compiled: &CompiledModule) -> bool {
+    let block = compiled.block().as_slice();
+    block.iter().any(|action| matches!(action, ReadyAction::Repeat(_) | ReadyAction::Choose(_, _)))
+}
+
 #[cycle(known)]
 fn are_known(block: &[ReadyAction]) -> bool
     ensures { OnTrue result (AreLinear block.now) }

@@ -6,6 +6,7 @@ ghost use Rattle.form_levels.specs.Outputs.{HasOutputs};
 ghost use Rattle.form_levels.specs.Runs.{Comes};
 ghost use Rattle.form_term.specs.declared.monomial.Monomial.{Monomial as Input};
 
+use crate::gathering::repeats;
 use crate::heap::Heap;
 use crate::levels::Levels;
 use crate::pace::Pace;
@@ -14,6 +15,12 @@ use form_gathered::laws::sums_of_inputs;
 use form_gathered::{JoinedTerm, counted, joined_inputs};
 use form_term::Monomial;
 use std::alloc::{AllocError, Global};
+
+/// So many steps are gone ahead before the first batch is carried out.
+const STEPS: u32 = 65_536;
+
+/// With so many of its terms at most.
+const LOOKED_AT: usize = 64;
 
 /// What a module's statements make of a batch of inputs, joined; none where that gained nothing lately, or where it isn't certain
 /// that no input is refused and that none has too many outputs.
@@ -89,7 +96,7 @@ fn outputs_of(
     Ok(outputs)
 }
 
-/// The same of a batch that was begun.
+/// The same of a batch that was begun. Where a refusal is near it is left to the walk of each input, which comes to it soon.
 fn batch_outputs(
     alloc: Global,
     compiled: &CompiledModule,
@@ -99,6 +106,9 @@ fn batch_outputs(
     ensures { (inputs : List Input) → IsJoined (length inputs) terms.items (alone inputs) →
         IfOk result (λ made. IfSome made (λ outputs. HasOutputs compiled.now inputs outputs.items)) }
 {
+    if is_refused_soon(alloc, compiled, &terms, pace)? {
+        return Ok(None);
+    }
     let levels = Levels { alloc, compiled };
     let Some(outputs) = levels.statements(compiled.block().as_slice(), terms, pace)? else {
         return Ok(None);
@@ -110,6 +120,51 @@ fn batch_outputs(
         return Ok(None);
     }
     Ok(Some(outputs))
+}
+
+/// Whether one of the first terms is refused soon, as it is defined: that a `repeat` never ends shows there in one way of a term,
+/// and in levels when their terms are very many. It is asked of the first batch, where something is repeated.
+fn is_refused_soon(
+    alloc: Global,
+    compiled: &CompiledModule,
+    terms: &[JoinedTerm],
+    pace: &mut Pace,
+) -> Result<bool, AllocError> {
+    if let Some(refused) = pace.refused() {
+        return Ok(refused);
+    }
+    let refused = repeats(compiled) && are_first_refused(alloc, compiled, terms)?;
+    pace.note_refused(refused);
+    Ok(refused)
+}
+
+fn are_first_refused(
+    alloc: Global,
+    compiled: &CompiledModule,
+    terms: &[JoinedTerm],
+) -> Result<bool, AllocError> {
+    let mut steps = STEPS;
+    for joined in terms.iter().take(LOOKED_AT) {
+        if is_refused(alloc, compiled, joined, &mut steps)? {
+            return Ok(true);
+        }
+    }
+    Ok(false)
+}
+
+fn is_refused(
+    alloc: Global,
+    compiled: &CompiledModule,
+    joined: &JoinedTerm,
+    steps: &mut u32,
+) -> Result<bool, AllocError> {
+    let item = Monomial {
+        coefficient: joined.sum,
+        term: joined.term.clone()?,
+    };
+    compiled
+        .outputs(alloc, item)
+        .are_refused_ahead(alloc, steps)
 }
 
 impl<'m, 'a> Levels<'m, 'a> {

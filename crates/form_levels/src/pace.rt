@@ -1,6 +1,6 @@
 //! How many inputs are carried out at once, and whether equal terms are brought together: by what was gained lately. What is
 //! carried out is right whatever is answered here.
-ghost use Rattle.std.specs.Prelude.{◌≡◌, ◌<◌, ◌↔◌, IfSome, IsTrue};
+ghost use Rattle.std.specs.Prelude.{◌≡◌, ◌<◌, ◌↔◌, IfSome, IsTrue, Some};
 ghost use Rattle.form_levels.specs.Linear.{AreLinear};
 ghost use Rattle.form_levels.specs.Pacing.{counted, ended, grown, noted, shrunk};
 
@@ -23,6 +23,8 @@ pub struct Pace {
     before: u64,
     /// Whether larger batches gain nothing more.
     is_settled: bool,
+    /// Whether an input was seen to be refused; none where it wasn't asked yet.
+    refused: Option<bool>,
 }
 
 /// So many terms tell something.
@@ -69,6 +71,7 @@ impl Pace {
             size: FIRST,
             before: u64::MAX,
             is_settled: false,
+            refused: None,
         }
     }
 
@@ -77,6 +80,20 @@ impl Pace {
         ensures { IsTrue result ↔ (self.now.resting ≡ 0) }
     {
         self.resting == 0
+    }
+
+    /// Whether an input was seen to be refused; none where it wasn't asked yet.
+    pub(crate) fn refused(&self) -> Option<bool>
+        ensures { result ≡ self.now.refused }
+    {
+        self.refused
+    }
+
+    /// It was asked whether an input is refused.
+    pub(crate) fn note_refused(&mut self, refused: bool)
+        ensures { self.new ≡ record self.old { refused = Some refused } }
+    {
+        self.refused = Some(refused);
     }
 
     /// How many inputs the next batch has at most.

@@ -13,5 +13,5 @@ returns c = λ inputs joined.
     let ks = c.in-Some.outputs.items in
     let come : Comes (run m.limits m.statements) js ks =
     subst (λ (ss : List Statement). Comes (run m.limits ss) js ks) (c.as_slice.ensures ∙ c.block.ensures) (rw c.in-Some.is at c.in_ok-outputs.ensures) in
-    let count : c.in-Some-counted.count ≡ counted ks = c.in-Some-counted.ensures ∙ ap counted c.deref.ensures.value in
+    let count : c.in-Some-counted.count ≡ counted ks = c.in-Some-counted.ensures ∙ ap counted c.deref-2.ensures.value in
     outputs_had m inputs js ks joined come (subst (λ n. n ≤ m.limits.terms) count (subst (λ n. c.in-Some-counted.count ≤ n) c.limit.ensures c.if-count-limit.false))
