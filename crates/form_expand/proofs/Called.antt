@@ -1,8 +1,7 @@
 -- Factors that are one piece or a function, and the arguments of functions.
-use Rattle.std.proofs.Common.{◌≡◌, ℕ, ◌+◌, ◌-◌, ◌<◌, Bool, true, false, List, [], ◌∷◌, ◌++◌, length, take, drop, refl, sym, ap, subst, ◌∙◌, arith, append-nil}
-use Rattle.std.specs.Prelude.{Some, None, Result, Ok, Err, IfOk, ◌==◌}
+use Rattle.std.proofs.Common.{◌≡◌, ℕ, ◌+◌, ◌-◌, ◌<◌, Bool, true, false, List, [], ◌∷◌, ◌++◌, length, take, drop, refl, sym, ap, subst, ◌∙◌, arith, append-nil, inl, inr}
+use Rattle.std.specs.Prelude.{Option, Some, None, Result, Ok, Err, IfOk, ◌==◌}
 use Rattle.std.specs.Global.{Vec}
-use Rattle.std.proofs.lemmas.Option.{same_Some}
 use Rattle.std.proofs.lemmas.Grind.{flat_map-append}
 use Rattle.form_base.specs.declared.cause.Cause.{Cause}
 use Rattle.form_term.specs.declared.arguments.Arguments.{Arguments}
@@ -20,46 +19,19 @@ use Rattle.form_tree.specs.declared.tree.Piece.TheVariants as pieces
 use Rattle.form_expand.specs.declared.function.Read.{Read}
 use Rattle.form_expand.specs.declared.refusal.Refusal.{Refusal}
 use Rattle.form_expand.specs.declared.ended.Ended.{Ended}
-use Rattle.form_expand.specs.Bound.{wild_list, exponent_in, list_of_base}
-use Rattle.form_expand.specs.Meanings.{Meanings, terms_of, index_of, vector_of, component_of, field_of}
+use Rattle.form_expand.specs.Meanings.{Meanings, index_of, vector_of, field_of}
 use Rattle.form_expand.specs.Calls.{called, IsFurther, Leads, ReadsArgument, ReadsExpression, IsCollected, IsCollectedFrom}
 use Rattle.form_expand.specs.Closings.{closing_at}
+use Rattle.form_expand.specs.Factors.{IsOneAtMost}
 use Rattle.form_expand.specs.Listing.{Listing, nothing, refusal, before, followed, followed_at, powers}
-use Rattle.form_expand.specs.Numbers.{number_list, symbol_list}
 use Rattle.form_expand.specs.Pieces.{list_of_piece}
 use Rattle.form_expand.specs.Readers.{in_product, joined, list_of_calling}
 use Rattle.form_expand.specs.Reading.{Calling, in_sum, in_function, fresh, fed, read_from, list_of_pieces}
-use Rattle.form_expand.specs.Singles.{list_of_call, argument_of, imaginary_list, dot_list, component_list, delta_list, one_argument, with_arguments}
+use Rattle.form_expand.specs.Singles.{alone, list_of_call, of_product, argument_of, one_argument, with_arguments}
 use Rattle.form_expand.specs.Walks.{all_of}
 use Rattle.form_expand.proofs.Behind.{refused_stays}
 use Rattle.form_expand.proofs.Listings.{followed_last, taken_on}
 use Rattle.form_expand.proofs.Parenthesized.{read_ended}
-
--- A factor that is one piece.
-
-pub piece_alone : (all : Meanings) (piece : Piece) (l : Listing) (power : ℕ) → list_of_piece all piece ≡ Some (l, power) → (max : ℕ) (m : Bool) (old : List Listing) (more : List Piece)
-    → read_from all (in_product max m old) (joined piece ∷ more) ≡ read_from all (in_product max m (old ++ powers max l power ∷ [])) more
-unfolding read_from fed
-piece_alone all (pieces.Number link value n) l power e max m old more = ap (λ (q : Listing × ℕ). read_from all (in_product max m (old ++ powers max q.0 q.1 ∷ [])) more) (same_Some (number_list value n, 1) (l, power) e)
-piece_alone all (pieces.Symbol link symbol n) l power e max m old more = ap (λ (q : Listing × ℕ). read_from all (in_product max m (old ++ powers max q.0 q.1 ∷ [])) more) (same_Some (symbol_list symbol n, 1) (l, power) e)
-piece_alone all (pieces.Wild link symbol is_over n) l power e max m old more = ap (λ (q : Listing × ℕ). read_from all (in_product max m (old ++ powers max q.0 q.1 ∷ [])) more) (same_Some (wild_list all symbol is_over n) (l, power) e)
-piece_alone all (pieces.Raised link base by) l power e max m old more = ap (λ (q : Listing × ℕ). read_from all (in_product max m (old ++ powers max q.0 q.1 ∷ [])) more) (same_Some (list_of_base all base by.is_over (exponent_in all by.is_minus by.symbol)) (l, power) e)
-piece_alone all (pieces.Stored link position n) l power e max m old more = ap (λ (q : Listing × ℕ). read_from all (in_product max m (old ++ powers max q.0 q.1 ∷ [])) more) (same_Some (record { terms = terms_of all position; end = None }, n) (l, power) e)
-piece_alone all (pieces.Imaginary link n) l power e max m old more = ap (λ (q : Listing × ℕ). read_from all (in_product max m (old ++ powers max q.0 q.1 ∷ [])) more) (same_Some (imaginary_list, n) (l, power) e)
-piece_alone all (pieces.Dot link p q n) l power e max m old more = ap (λ (q : Listing × ℕ). read_from all (in_product max m (old ++ powers max q.0 q.1 ∷ [])) more) (same_Some (dot_list (vector_of all p) (vector_of all q) n, 1) (l, power) e)
-piece_alone all (pieces.Component link c n) l power e max m old more = ap (λ (q : Listing × ℕ). read_from all (in_product max m (old ++ powers max q.0 q.1 ∷ [])) more) (same_Some (component_list (component_of all c), n) (l, power) e)
-piece_alone all (pieces.Delta link i j n) l power e max m old more = ap (λ (q : Listing × ℕ). read_from all (in_product max m (old ++ powers max q.0 q.1 ∷ [])) more) (same_Some (delta_list (index_of all i) (index_of all j), n) (l, power) e)
-piece_alone all (pieces.Function link f is_commuting) l power e max m old more = absurd (cc)
-piece_alone all (pieces.EndOfFunction n) l power e max m old more = absurd (cc)
-piece_alone all (pieces.EndOfRaisedFunction by) l power e max m old more = absurd (cc)
-piece_alone all (pieces.Field w) l power e max m old more = absurd (cc)
-piece_alone all (pieces.Index i) l power e max m old more = absurd (cc)
-piece_alone all (pieces.Vector v) l power e max m old more = absurd (cc)
-piece_alone all pieces.Argument l power e max m old more = absurd (cc)
-piece_alone all pieces.EndOfArgument l power e max m old more = absurd (cc)
-piece_alone all (pieces.Open link) l power e max m old more = absurd (cc)
-piece_alone all (pieces.Close n) l power e max m old more = absurd (cc)
-piece_alone all (pieces.CloseRaised by) l power e max m old more = absurd (cc)
 
 -- what begins within a product, or among arguments
 abbrev pub opens : Piece → Bool
@@ -106,30 +78,69 @@ none_opened (pieces.Open link) no_function no_argument no_open = absurd (no_open
 none_opened (pieces.Close power) no_function no_argument no_open = refl
 none_opened (pieces.CloseRaised by) no_function no_argument no_open = refl
 
--- a piece that is no factor is passed over in a product
+-- ---- a factor that is one piece
+
+-- the factors with such a one
+abbrev with_piece : ℕ → List Listing → Option (Listing × ℕ) → List Listing
+with_piece max old None = old
+with_piece max old (Some f) = old ++ powers max f.0 f.1 ∷ []
+
+pub piece_read : (all : Meanings) (piece : Piece) → opens piece ≡ false → (max : ℕ) (m : Bool) (old : List Listing) (more : List Piece)
+    → read_from all (in_product max m old) (joined piece ∷ more) ≡ read_from all (in_product max m (with_piece max old (list_of_piece all piece))) more
+unfolding read_from fed
+piece_read all (pieces.Number link value n) shut max m old more = refl
+piece_read all (pieces.Symbol link symbol n) shut max m old more = refl
+piece_read all (pieces.Wild link symbol is_over n) shut max m old more = refl
+piece_read all (pieces.Raised link base by) shut max m old more = refl
+piece_read all (pieces.Stored link position n) shut max m old more = refl
+piece_read all (pieces.Imaginary link n) shut max m old more = refl
+piece_read all (pieces.Dot link p q n) shut max m old more = refl
+piece_read all (pieces.Component link c n) shut max m old more = refl
+piece_read all (pieces.Delta link i j n) shut max m old more = refl
+piece_read all (pieces.Function link f is_commuting) shut max m old more = absurd (cc)
+piece_read all (pieces.EndOfFunction n) shut max m old more = refl
+piece_read all (pieces.EndOfRaisedFunction by) shut max m old more = refl
+piece_read all (pieces.Field w) shut max m old more = refl
+piece_read all (pieces.Index i) shut max m old more = refl
+piece_read all (pieces.Vector v) shut max m old more = refl
+piece_read all pieces.Argument shut max m old more = absurd (cc)
+piece_read all pieces.EndOfArgument shut max m old more = refl
+piece_read all (pieces.Open link) shut max m old more = absurd (cc)
+piece_read all (pieces.Close n) shut max m old more = refl
+piece_read all (pieces.CloseRaised by) shut max m old more = refl
+
+-- such a piece opens nothing
+shut_alone : (all : Meanings) (piece : Piece) (f : Listing × ℕ) → list_of_piece all piece ≡ Some f → opens piece ≡ false
+shut_alone all (pieces.Number link value n) list e = refl
+shut_alone all (pieces.Symbol link symbol n) list e = refl
+shut_alone all (pieces.Wild link symbol is_over n) list e = refl
+shut_alone all (pieces.Raised link base by) list e = refl
+shut_alone all (pieces.Stored link position n) list e = refl
+shut_alone all (pieces.Imaginary link n) list e = refl
+shut_alone all (pieces.Dot link p q n) list e = refl
+shut_alone all (pieces.Component link c n) list e = refl
+shut_alone all (pieces.Delta link i j n) list e = refl
+shut_alone all (pieces.Function link f is_commuting) list e = absurd (cc)
+shut_alone all (pieces.EndOfFunction n) list e = refl
+shut_alone all (pieces.EndOfRaisedFunction by) list e = refl
+shut_alone all (pieces.Field w) list e = refl
+shut_alone all (pieces.Index i) list e = refl
+shut_alone all (pieces.Vector v) list e = refl
+shut_alone all pieces.Argument list e = absurd (cc)
+shut_alone all pieces.EndOfArgument list e = refl
+shut_alone all (pieces.Open link) list e = absurd (cc)
+shut_alone all (pieces.Close n) list e = refl
+shut_alone all (pieces.CloseRaised by) list e = refl
+
+pub piece_alone : (all : Meanings) (piece : Piece) (l : Listing) (power : ℕ) → list_of_piece all piece ≡ Some (l, power) → (max : ℕ) (m : Bool) (old : List Listing) (more : List Piece)
+    → read_from all (in_product max m old) (joined piece ∷ more) ≡ read_from all (in_product max m (old ++ powers max l power ∷ [])) more
+piece_alone all piece l power e max m old more =
+    piece_read all piece (shut_alone all piece (l, power) e) max m old more ∙ ap (λ (f : Option (Listing × ℕ)). read_from all (in_product max m (with_piece max old f)) more) e
+
+-- one that is no factor is passed over
 pub piece_passed : (all : Meanings) (piece : Piece) → list_of_piece all piece ≡ None → opens piece ≡ false → (max : ℕ) (m : Bool) (old : List Listing) (more : List Piece)
     → read_from all (in_product max m old) (joined piece ∷ more) ≡ read_from all (in_product max m old) more
-unfolding read_from fed
-piece_passed all (pieces.Number link value power) none shut max m old more = absurd (cc)
-piece_passed all (pieces.Symbol link symbol power) none shut max m old more = absurd (cc)
-piece_passed all (pieces.Wild link symbol is_over power) none shut max m old more = absurd (cc)
-piece_passed all (pieces.Raised link base by) none shut max m old more = absurd (cc)
-piece_passed all (pieces.Stored link position power) none shut max m old more = absurd (cc)
-piece_passed all (pieces.Imaginary link power) none shut max m old more = absurd (cc)
-piece_passed all (pieces.Dot link p q power) none shut max m old more = absurd (cc)
-piece_passed all (pieces.Component link c power) none shut max m old more = absurd (cc)
-piece_passed all (pieces.Delta link i j power) none shut max m old more = absurd (cc)
-piece_passed all (pieces.Function link f is_commuting) none shut max m old more = absurd (cc)
-piece_passed all (pieces.EndOfFunction power) none shut max m old more = refl
-piece_passed all (pieces.EndOfRaisedFunction by) none shut max m old more = refl
-piece_passed all (pieces.Field w) none shut max m old more = refl
-piece_passed all (pieces.Index i) none shut max m old more = refl
-piece_passed all (pieces.Vector v) none shut max m old more = refl
-piece_passed all pieces.Argument none shut max m old more = absurd (cc)
-piece_passed all pieces.EndOfArgument none shut max m old more = refl
-piece_passed all (pieces.Open link) none shut max m old more = absurd (cc)
-piece_passed all (pieces.Close power) none shut max m old more = refl
-piece_passed all (pieces.CloseRaised by) none shut max m old more = refl
+piece_passed all piece none shut max m old more = piece_read all piece shut max m old more ∙ ap (λ (f : Option (Listing × ℕ)). read_from all (in_product max m (with_piece max old f)) more) none
 
 -- Among the arguments of a function.
 
@@ -280,7 +291,25 @@ module _ (max : ℕ) (all : Meanings) (f : ℕ) (is_commuting : Bool) (old new :
       → argument_of l ≡ Err cause → list ≡ refusal cause
   expression_refused list l cause rest e a =
       let k : Calling = record { max = max; function = f; is_commuting = is_commuting; arguments = with_arguments (Ok args) (one_argument (argument_of l)) } in
-      e ∙ refused_stays all cause k rest (ap (λ r. with_arguments (Ok args) (one_argument r)) a)
+      e ∙ refused_stays cause all k rest (ap (λ r. with_arguments (Ok args) (one_argument r)) a)
+
+-- a function is one term at most
+one_made : (r : Result (Option Monomial) Cause) → IsOneAtMost (of_product r)
+one_made (Ok (Some m)) = (omega arith, inr refl)
+one_made (Ok None) = (omega arith, inl refl)
+one_made (Err cause) = (omega arith, inl refl)
+
+one_call : (is_commuting : Bool) (c : Call) → IsOneAtMost (list_of_call is_commuting c)
+unfolding alone
+one_call true c = one_made _
+one_call false c = one_made _
+
+pub one_called : {W E : Type 0} (listing : W → Listing) (is_commuting : Bool) (c : Call) (r : Result W E) → IfOk r (λ w. listing w ≡ list_of_call is_commuting c) → IfOk r (λ w. IsOneAtMost (listing w))
+one_called listing is_commuting c (Ok w) made = subst IsOneAtMost (sym made) (one_call is_commuting c)
+one_called listing is_commuting c (Err e) made = tt
+
+pub one_refused : (l : Listing) (cause : Cause) → l ≡ refusal cause → IsOneAtMost l
+one_refused l cause e = subst IsOneAtMost (sym e) (omega arith, inl refl)
 
 -- all arguments were read
 pub list_called : {W E : Type 0} (all : Meanings) (max f : ℕ) (is_commuting : Bool) (arguments : Arguments) (call : Call) (rest : List Piece) (listing : W → Listing) (r : Result W E) (list : Listing)

@@ -1,11 +1,12 @@
 pub mod Alones
 pub mod Behind
 pub mod Called
-pub mod Chained
 pub mod Draining
+pub mod Factored
+pub mod Filling
 pub mod Inverses
-mod Keeping
 pub mod Leaps
+pub mod Leveled
 pub mod Levels
 pub mod Listed
 pub mod Listings
@@ -16,26 +17,19 @@ mod LoneFunctions
 mod Lones
 pub mod Lookups
 pub mod Meant
-pub mod Measured
-mod Moved
-mod Nearing
 pub mod NumberLists
-pub mod NumberPowers
 pub mod NumberSums
 pub mod Parenthesized
 pub mod Places
 pub mod Powered
 pub mod Powers
-pub mod Products
 pub mod Raised
 pub mod Raising
+pub mod ReadFactors
 pub mod Recording
 pub mod Repeating
-pub mod RowParts
 pub mod Rows
-pub mod Runs
 pub mod Singled
 pub mod Streamed
 pub mod Taking
 pub mod Trees
-pub mod Vecs

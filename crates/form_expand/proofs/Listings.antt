@@ -37,7 +37,7 @@ limited_refusal n cause = limited_within n (refusal cause) (omega arith)
 pub limited_nothing : (n : ℕ) → limited n nothing ≡ nothing
 limited_nothing n = limited_within n nothing (omega arith)
 
-take_take : {X : Type 0} (n k : ℕ) (xs : List X) → n ≤ k → take n (take k xs) ≡ take n xs
+pub take_take : {X : Type 0} (n k : ℕ) (xs : List X) → n ≤ k → take n (take k xs) ≡ take n xs
 take_take zero k xs h = refl
 take_take (suc n) zero xs h = absurd (omega arith)
 take_take (suc n) (suc k) [] h = refl

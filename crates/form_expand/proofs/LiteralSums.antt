@@ -1,5 +1,5 @@
 -- Sums of products each of which is one term, all of which are read at once.
-use Rattle.std.proofs.Common.{◌≡◌, ℕ, ◌≤◌, false, List, [], ◌∷◌, ◌++◌, length, refl, sym, ap, subst, ◌∙◌, arith}
+use Rattle.std.proofs.Common.{◌≡◌, ℕ, ◌≤◌, List, [], ◌∷◌, ◌++◌, length, refl, sym, ap, subst, ◌∙◌, arith}
 use Rattle.std.specs.Prelude.{Option, Result, IfOk, IfSome}
 use Rattle.std.specs.Global.{Vec}
 use Rattle.form_term.specs.declared.monomial.Monomial.{Monomial}
@@ -10,21 +10,13 @@ use Rattle.form_expand.specs.Kept.{listing}
 use Rattle.form_expand.specs.Meanings.{Meanings}
 use Rattle.form_expand.specs.Listing.{Listing, nothing, single, before, limited, followed, signed, with_sign}
 use Rattle.form_expand.specs.Literals.{IsLiteral, ReadsProduct}
-use Rattle.form_expand.specs.Reading.{in_sum, fresh, read_from, list_of_pieces}
+use Rattle.form_expand.specs.Reading.{list_of_pieces}
 use Rattle.form_expand.specs.Walks.{all_of}
-use Rattle.form_expand.proofs.Behind.{pieces_of_none, read_behind}
-use Rattle.form_expand.proofs.Listings.{followed_nothing, followed_last, followed_before, limited_nothing, limited_within, limited_followed_last, taken_on}
+use Rattle.form_expand.proofs.Behind.{limited_pieces, pieces_of_none}
+use Rattle.form_expand.proofs.Listings.{followed_nothing, followed_last, followed_before, limited_within, limited_followed_last, taken_on}
 use Rattle.form_expand.proofs.Streamed.{one_limited}
 
 module _ (max : ℕ) (all : Meanings) where
-  -- the list of pieces is within its limit
-  pub pieces_limited : (pieces : List Piece) → limited max (list_of_pieces max all pieces) ≡ list_of_pieces max all pieces
-  pieces_limited pieces =
-      let list = list_of_pieces max all pieces in
-      sym (sym (ap (λ l. read_from all (record { top = in_sum (record { max = max; sum = l; is_minus = false; factors = [] }); outer = [] }) pieces) (ap (limited max) (followed_nothing nothing) ∙ limited_nothing max))
-      ∙ read_behind all nothing (in_sum (fresh max)) [] pieces tt
-      ∙ ap (limited max) (followed_nothing list))
-
   pub sum_begun : (pieces : List Piece) (terms : List Monomial) → terms ≡ []
       → limited max (list_of_pieces max all pieces) ≡ limited max (followed (all_of terms) (list_of_pieces max all pieces))
   sum_begun pieces terms none =
@@ -57,7 +49,7 @@ module _ (max : ℕ) (all : Meanings) where
   pub sum_read : (pieces rest : List Piece) (terms : List Monomial) → rest ≡ [] → length terms ≤ max
       → limited max (list_of_pieces max all pieces) ≡ limited max (followed (all_of terms) (list_of_pieces max all rest))
       → list_of_pieces max all pieces ≡ all_of terms
-  sum_read pieces rest terms none short e = sym (pieces_limited pieces) ∙ sum_done (limited max (list_of_pieces max all pieces)) rest terms none short e
+  sum_read pieces rest terms none short e = sym (limited_pieces max all pieces) ∙ sum_done (limited max (list_of_pieces max all pieces)) rest terms none short e
 
   -- a sum behind no terms
   pub sum_alone : {E : Type 0} (r : Result (Option (Vec Monomial)) E) (pieces : List Piece) (none : List Monomial) → none ≡ []
@@ -65,7 +57,7 @@ module _ (max : ℕ) (all : Meanings) where
       → IfOk r (λ found. IfSome found (λ terms. list_of_pieces max all pieces ≡ all_of terms.items))
   sum_alone r pieces none empty h =
       subst (λ (l : Listing). IfOk r (λ found. IfSome found (λ terms. l ≡ all_of terms.items)))
-      (sym (sym (pieces_limited pieces) ∙ sum_begun pieces none empty)) h
+      (sym (sym (limited_pieces max all pieces) ∙ sum_begun pieces none empty)) h
 
   -- the first product is read
   pub first_read : (pieces rest : List Piece) (l : Literal) (term : Monomial) → IsLiteral max all pieces l rest → term ≡ with_sign l.is_minus l.term
@@ -81,4 +73,4 @@ module _ (max : ℕ) (all : Meanings) where
       → IfOk r (λ found. IfSome found (λ whole. limited max (followed (single term) (list_of_pieces max all rest)) ≡ listing whole))
       → IfOk r (λ found. IfSome found (λ whole. list_of_pieces max all pieces ≡ listing whole))
   several_read r pieces rest l term h is k =
-      subst (λ (x : Listing). IfOk r (λ found. IfSome found (λ whole. x ≡ listing whole))) (sym (sym (pieces_limited pieces) ∙ first_read pieces rest l term h is)) k
+      subst (λ (x : Listing). IfOk r (λ found. IfSome found (λ whole. x ≡ listing whole))) (sym (sym (limited_pieces max all pieces) ∙ first_read pieces rest l term h is)) k

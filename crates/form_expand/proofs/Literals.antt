@@ -13,7 +13,6 @@ use Rattle.form_normal.specs.Product.{product_of}
 use Rattle.form_tree.specs.declared.tree.Link.{Link}
 use Rattle.form_tree.specs.declared.tree.Piece.{Piece}
 use Rattle.form_tree.specs.declared.tree.Piece.TheVariants as pieces
-use Rattle.form_expand.specs.declared.ended.Ended.{Ended}
 use Rattle.form_expand.specs.declared.ended.Ended.TheVariants.{Power}
 use Rattle.form_expand.specs.Bound.{wild_list}
 use Rattle.form_expand.specs.Closings.{closing_at}
@@ -23,13 +22,13 @@ use Rattle.form_expand.specs.Listing.{Listing, nothing, single, before_by, limit
 use Rattle.form_expand.specs.Literals.{IsLiteral, IsTakenAt, IsTakenWithin, IsTimes, AreArgued, ReadsProduct}
 use Rattle.form_expand.specs.Pieces.{list_of_piece}
 use Rattle.form_expand.specs.Readers.{EndsProduct, IsReadFunction, is_minus_piece, product_part, in_product, list_of_calling}
-use Rattle.form_expand.specs.Reading.{in_sum, in_function, fresh, calling, fed, read_from, list_of_pieces, begins_product}
+use Rattle.form_expand.specs.Reading.{in_sum, in_function, calling, fed, read_from, list_of_pieces, link_of_piece, begins_product}
 use Rattle.form_expand.specs.Singles.{list_of_call}
-use Rattle.form_expand.proofs.Behind.{read_ends}
+use Rattle.form_expand.proofs.Behind.{goes_on, read_ends, read_first, read_further}
 use Rattle.form_expand.proofs.Called.{piece_alone}
 use Rattle.form_expand.proofs.Listings.{limited_within, limited_none, limited_refusal, limited_again, followed_last, times_before, times_end, pairs_before, pairs_nothing, pairs_refusal}
-use Rattle.form_expand.proofs.Parenthesized.{read_first, joined_same, read_ended}
-use Rattle.form_expand.proofs.Products.{row_push}
+use Rattle.form_expand.proofs.Parenthesized.{read_ended}
+use Rattle.form_expand.proofs.Rows.{row_push}
 
 same_ok : (a b : Monomial) (r : Result (Option Monomial) Cause) → r ≡ Ok (Some a) → r ≡ Ok (Some b) → a ≡ b
 same_ok a b r e f = cc
@@ -98,7 +97,8 @@ module _ (max : ℕ) (all : Meanings) where
   next_taken ps is_minus piece more old new here rest is on h t = record {
     factors = h.factors ++ limited max t.taken.list ∷ [];
     list = h.list
-        ∙ ap (read_from all (in_product max is_minus h.factors)) (is ∙ ap (λ p. p ∷ more) (sym (joined_same piece on)))
+        ∙ ap (read_from all (in_product max is_minus h.factors)) is
+        ∙ read_further max all is_minus h.factors piece more (goes_on (link_of_piece piece) on)
         ∙ t.taken.read h.factors is_minus;
     one = one_more max h.factors t.taken.list old new h.one t.taken.times;
     some = omega (arith, length-append h.factors (limited max t.taken.list ∷ []));
@@ -172,9 +172,3 @@ module _ (max : ℕ) (all : Meanings) where
     };
     shorter = short;
   }
-
--- how many pieces stand before the end
-pub ends_within : (all : Meanings) (ps : List Piece) (len : ℕ) (by : Ended) → closing_at 0 0 ps ≡ Some (len, by) → len < length ps
-ends_within all ps len by closes =
-    let h = read_ended all (in_sum (fresh 0)) 0 (in_sum (fresh 0)) [] ps len by closes in
-    omega (arith, h.within)

@@ -18,10 +18,10 @@ use Rattle.form_expand.specs.Meanings.{Meanings, function_of}
 use Rattle.form_expand.specs.Readers.{IsReadFactor, IsReadFunction, in_product}
 use Rattle.form_expand.specs.Reading.{fed, read_from, list_of_pieces}
 use Rattle.form_expand.specs.Singles.{alone as list_alone, of_product, list_of_call}
-use Rattle.form_expand.proofs.Behind.{pieces_of_none, read_ends}
+use Rattle.form_expand.proofs.Behind.{pieces_of_none, read_ends, read_first}
 use Rattle.form_expand.proofs.Listings.{followed_last, limited_again, limited_within}
 use Rattle.form_expand.proofs.Literals.{pair_of_ones, within_read}
-use Rattle.form_expand.proofs.Parenthesized.{drop_next, read_first}
+use Rattle.form_expand.proofs.Parenthesized.{drop_next}
 use Rattle.form_expand.proofs.Places.{drop_past}
 use Rattle.form_expand.proofs.Streamed.{signed_plus}
 

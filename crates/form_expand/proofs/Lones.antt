@@ -32,11 +32,11 @@ use Rattle.form_expand.specs.Readers.{is_minus_piece}
 use Rattle.form_expand.specs.Reading.{list_of_pieces}
 use Rattle.form_expand.specs.Singles.{argument_of as argument_listed, of_collected}
 use Rattle.form_expand.specs.Walks.{all_of}
+use Rattle.form_expand.proofs.Behind.{read_first}
 use Rattle.form_expand.proofs.Called.{piece_alone, expression_read, expression_ended}
 use Rattle.form_expand.proofs.Literals.{IsReadTo, product_read}
 use Rattle.form_expand.proofs.LiteralSums.{sum_begun, sum_more, sum_read}
 use Rattle.form_expand.proofs.Listings.{limited_again}
-use Rattle.form_expand.proofs.Parenthesized.{read_first}
 
 -- ---- its list
 

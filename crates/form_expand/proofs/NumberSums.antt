@@ -31,10 +31,10 @@ use Rattle.form_expand.specs.NumberSums.{IsNumberPiece, IsNumberArgument, IsEndO
 use Rattle.form_expand.specs.Reading.{Part, Frame, Reading, in_sum, in_function, fresh, closed, begun, linked, with_factor, with_piece, fed, read_from}
 use Rattle.form_expand.specs.Singles.{argument_of, of_collected}
 use Rattle.form_expand.specs.Walks.{all_of}
+use Rattle.form_expand.proofs.Behind.{linked_first}
 use Rattle.form_expand.proofs.Called.{expression_read}
 use Rattle.form_expand.proofs.Listings.{followed_last, limited_within, taken_on}
 use Rattle.form_expand.proofs.Literals.{IsOne, one_more, one_row}
-use Rattle.form_expand.proofs.Parenthesized.{linked_first}
 
 -- ---- numbers are multiplied and collected
 

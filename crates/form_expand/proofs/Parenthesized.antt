@@ -1,29 +1,20 @@
 -- Reading a sum in parentheses up to where it ends.
-use Rattle.std.proofs.Common.{◌≡◌, ℕ, zero, suc, ◌+◌, ◌-◌, ◌<◌, ◌≤◌, true, false, List, [], ◌∷◌, ◌++◌, length, take, drop, map, refl, sym, ap, subst, ◌∙◌, arith}
+use Rattle.std.proofs.Common.{◌≡◌, ℕ, zero, suc, ◌+◌, ◌-◌, ◌<◌, ◌≤◌, true, List, [], ◌∷◌, ◌++◌, length, take, drop, refl, sym, ap, subst, ◌∙◌, arith}
 use Rattle.std.specs.Prelude.{Option, Some, None}
-use Rattle.std.proofs.lemmas.List.{map-append}
-use Rattle.form_tree.specs.declared.tree.Link.{Link}
 use Rattle.form_tree.specs.declared.tree.Link.TheVariants as links
 use Rattle.form_tree.specs.declared.tree.Piece.{Piece}
 use Rattle.form_tree.specs.declared.tree.Piece.TheVariants as pieces
-use Rattle.form_expand.specs.declared.factor.Factor.{Factor}
 use Rattle.form_expand.specs.declared.ended.Ended.{Ended}
 use Rattle.form_expand.specs.declared.ended.Ended.TheVariants as ends
 use Rattle.form_expand.specs.Bound.{wild_list, exponent_in, list_of_base}
 use Rattle.form_expand.specs.Meanings.{Meanings, terms_of, index_of, vector_of, component_of, function_of, field_of}
 use Rattle.form_expand.specs.Closings.{closing_at, deep_behind, power_at_end}
-use Rattle.form_expand.specs.Factors.{factor_whole}
-use Rattle.form_expand.specs.Listing.{Listing}
-use Rattle.form_expand.specs.Reading.{Part, Frame, in_sum, in_function, Reading, fresh, calling, list_of_frame, limit_of, linked, linked_frame, with_factor, factor_into, argument_into, begun_function, ended, fed, outermost, read_from, list_of_pieces, begins_product}
+use Rattle.form_expand.specs.Reading.{Frame, in_sum, Reading, fresh, list_of_frame, limit_of, linked_frame, factor_into, argument_into, begun_function, ended, fed, read_from, begins_product}
 use Rattle.form_term.specs.Term.{index, vector}
 use Rattle.form_expand.specs.Numbers.{number_list, symbol_list}
 use Rattle.form_expand.specs.Singles.{imaginary_list, dot_list, component_list, delta_list}
-use Rattle.form_expand.specs.Readers.{EndsProduct, is_minus_link, is_minus_piece, joined, product_part, in_product}
-use Rattle.form_expand.proofs.Behind.{closed_fresh}
-
-outermost_last : (top : Frame) (outer : List Frame) (f : Frame) → outermost top (outer ++ f ∷ []) ≡ f
-outermost_last top [] f = refl
-outermost_last top (g ∷ outer) f = outermost_last g outer f
+use Rattle.form_expand.specs.Readers.{EndsProduct}
+use Rattle.form_expand.proofs.Behind.{outermost_last}
 
 some_pair : (p q : ℕ × Ended) → Some p ≡ Some q → (p.0 ≡ q.0) × (p.1 ≡ q.1)
 some_pair p q e = (ap first e, ap second e)
@@ -152,87 +143,7 @@ module _ (all : Meanings) (p : Frame) where
   read_ended place top (g ∷ outer) ((pieces.CloseRaised x) ∷ ps) at by e =
       ended_on place top (ended all (list_of_frame top) (ends.Raised x) g) (g ∷ outer) outer (pieces.CloseRaised x) ps at by refl refl (read_ended (place + 1) (ended all (list_of_frame top) (ends.Raised x) g) outer ps at by e)
 
--- Reading factor by factor.
-
-pub linked_first : (max : ℕ) (link : Link) → linked link (fresh max) ≡ product_part max (is_minus_link link) []
-linked_first max links.Plus = ap (λ l. record { max = max; sum = l; is_minus = false; factors = [] }) (closed_fresh max)
-linked_first max links.Minus = ap (λ l. record { max = max; sum = l; is_minus = true; factors = [] }) (closed_fresh max)
-linked_first max links.Times = refl
-
--- the first piece of a product
-pub read_first : (max : ℕ) (all : Meanings) (piece : Piece) (more : List Piece)
-    → list_of_pieces max all (piece ∷ more) ≡ read_from all (in_product max (is_minus_piece piece) []) (joined piece ∷ more)
-unfolding read_from fed
-read_first max all (pieces.Number link value power) more = ap (λ (w : Part). read_from all (record { top = in_sum (with_factor (number_list value power) 1 w); outer = [] }) more) (linked_first max link)
-read_first max all (pieces.Symbol link symbol power) more = ap (λ (w : Part). read_from all (record { top = in_sum (with_factor (symbol_list symbol power) 1 w); outer = [] }) more) (linked_first max link)
-read_first max all (pieces.Wild link symbol is_over power) more = ap (λ (w : Part). read_from all (record { top = in_sum (with_factor ((wild_list all symbol is_over power).0) ((wild_list all symbol is_over power).1) w); outer = [] }) more) (linked_first max link)
-read_first max all (pieces.Raised link base by) more = ap (λ (w : Part). read_from all (record { top = in_sum (with_factor ((list_of_base all base by.is_over (exponent_in all by.is_minus by.symbol)).0) ((list_of_base all base by.is_over (exponent_in all by.is_minus by.symbol)).1) w); outer = [] }) more) (linked_first max link)
-read_first max all (pieces.Stored link expression power) more = ap (λ (w : Part). read_from all (record { top = in_sum (with_factor (record { terms = terms_of all expression; end = None }) power w); outer = [] }) more) (linked_first max link)
-read_first max all (pieces.Imaginary link power) more = ap (λ (w : Part). read_from all (record { top = in_sum (with_factor (imaginary_list) power w); outer = [] }) more) (linked_first max link)
-read_first max all (pieces.Dot link p q power) more = ap (λ (w : Part). read_from all (record { top = in_sum (with_factor (dot_list (vector_of all p) (vector_of all q) power) 1 w); outer = [] }) more) (linked_first max link)
-read_first max all (pieces.Component link c power) more = ap (λ (w : Part). read_from all (record { top = in_sum (with_factor (component_list (component_of all c)) power w); outer = [] }) more) (linked_first max link)
-read_first max all (pieces.Delta link i j power) more = ap (λ (w : Part). read_from all (record { top = in_sum (with_factor (delta_list (index_of all i) (index_of all j)) power w); outer = [] }) more) (linked_first max link)
-read_first max all (pieces.Function link f is_commuting) more = ap (λ (w : Part). read_from all (record { top = in_function (calling max (function_of all f) is_commuting); outer = in_sum w ∷ [] }) more) (linked_first max link)
-read_first max all (pieces.EndOfFunction power) more = refl
-read_first max all (pieces.EndOfRaisedFunction by) more = refl
-read_first max all (pieces.Field w) more = refl
-read_first max all (pieces.Index i) more = refl
-read_first max all (pieces.Vector v) more = refl
-read_first max all pieces.Argument more = refl
-read_first max all pieces.EndOfArgument more = refl
-read_first max all (pieces.Open link) more = ap (λ (w : Part). read_from all (record { top = in_sum (fresh max); outer = in_sum w ∷ [] }) more) (linked_first max link)
-read_first max all (pieces.Close power) more = refl
-read_first max all (pieces.CloseRaised by) more = refl
-
--- a piece that begins no product
-pub joined_same : (piece : Piece) → begins_product piece ≡ false → joined piece ≡ piece
-joined_same (pieces.Number links.Plus value power) e = cc
-joined_same (pieces.Number links.Minus value power) e = cc
-joined_same (pieces.Number links.Times value power) e = refl
-joined_same (pieces.Symbol links.Plus symbol power) e = cc
-joined_same (pieces.Symbol links.Minus symbol power) e = cc
-joined_same (pieces.Symbol links.Times symbol power) e = refl
-joined_same (pieces.Wild links.Plus symbol is_over power) e = cc
-joined_same (pieces.Wild links.Minus symbol is_over power) e = cc
-joined_same (pieces.Wild links.Times symbol is_over power) e = refl
-joined_same (pieces.Raised links.Plus base by) e = cc
-joined_same (pieces.Raised links.Minus base by) e = cc
-joined_same (pieces.Raised links.Times base by) e = refl
-joined_same (pieces.Stored links.Plus expression power) e = cc
-joined_same (pieces.Stored links.Minus expression power) e = cc
-joined_same (pieces.Stored links.Times expression power) e = refl
-joined_same (pieces.Imaginary links.Plus power) e = cc
-joined_same (pieces.Imaginary links.Minus power) e = cc
-joined_same (pieces.Imaginary links.Times power) e = refl
-joined_same (pieces.Dot links.Plus p q power) e = cc
-joined_same (pieces.Dot links.Minus p q power) e = cc
-joined_same (pieces.Dot links.Times p q power) e = refl
-joined_same (pieces.Component links.Plus c power) e = cc
-joined_same (pieces.Component links.Minus c power) e = cc
-joined_same (pieces.Component links.Times c power) e = refl
-joined_same (pieces.Delta links.Plus i j power) e = cc
-joined_same (pieces.Delta links.Minus i j power) e = cc
-joined_same (pieces.Delta links.Times i j power) e = refl
-joined_same (pieces.Function links.Plus f is_commuting) e = cc
-joined_same (pieces.Function links.Minus f is_commuting) e = cc
-joined_same (pieces.Function links.Times f is_commuting) e = refl
-joined_same (pieces.EndOfFunction power) e = refl
-joined_same (pieces.EndOfRaisedFunction by) e = refl
-joined_same (pieces.Field w) e = refl
-joined_same (pieces.Index i) e = refl
-joined_same (pieces.Vector v) e = refl
-joined_same pieces.Argument e = refl
-joined_same pieces.EndOfArgument e = refl
-joined_same (pieces.Open links.Plus) e = cc
-joined_same (pieces.Open links.Minus) e = cc
-joined_same (pieces.Open links.Times) e = refl
-joined_same (pieces.Close power) e = refl
-joined_same (pieces.CloseRaised by) e = refl
-
--- a further factor of this list
-pub factor_pushed : (max : ℕ) (factors : List Factor) (f : Factor) (l : Listing) → factor_whole max f ≡ l
-    → map (factor_whole max) (factors ++ f ∷ []) ≡ map (factor_whole max) factors ++ l ∷ []
-factor_pushed max factors f l e = map-append (factor_whole max) factors (f ∷ []) ∙ ap (λ k. map (factor_whole max) factors ++ k ∷ []) e
+-- ---- where a product ends
 
 pub ends_here : (rest : List Piece) (piece : Piece) (more : List Piece) → rest ≡ piece ∷ more → begins_product piece ≡ true → EndsProduct rest
 ends_here rest piece more e begins = subst EndsProduct (sym e) begins
@@ -317,6 +228,44 @@ closing_on place deep piece ps rest e goes = ap (closing_at place deep) e ∙ cl
 pub closing_none : (place deep : ℕ) (ps : List Piece) → ps ≡ [] → closing_at place deep ps ≡ None
 unfolding closing_at
 closing_none place deep ps e = ap (closing_at place deep) e
+
+-- it ends at this place or behind it
+closing_past : (place deep : ℕ) (ps : List Piece) (at : ℕ) (by : Ended) → closing_at place deep ps ≡ Some (at, by) → place ≤ at
+unfolding closing_at
+closing_past place deep [] at by e = absurd (cc)
+closing_past place deep (piece ∷ ps) at by e = step (power_at_end deep piece) refl (closing_past (place + 1) (deep_behind deep piece) ps at by)
+  where
+    step : (end : Option Ended) → power_at_end deep piece ≡ end → (closing_at (place + 1) (deep_behind deep piece) ps ≡ Some (at, by) → place + 1 ≤ at) → place ≤ at
+    step (Some power) h later = let pair = some_pair (place, power) (at, by) (sym (closing_end place deep power piece ps h) ∙ e) in omega (arith, pair.0)
+    step None h later = omega (arith, later (sym (closing_next place deep piece ps h) ∙ e))
+
+-- what stands behind the end doesn't matter
+closing_cut : (place deep : ℕ) (ps : List Piece) (at : ℕ) (by : Ended) → closing_at place deep ps ≡ Some (at, by) → closing_at place deep (take (at - place + 1) ps) ≡ Some (at, by)
+unfolding closing_at
+closing_cut place deep [] at by e = absurd (cc)
+closing_cut place deep (piece ∷ ps) at by e =
+    let n : at - place + 1 ≡ suc (at - place) = omega arith in
+    ap (λ (k : ℕ). closing_at place deep (take k (piece ∷ ps))) n ∙ step (power_at_end deep piece) refl (closing_cut (place + 1) (deep_behind deep piece) ps at by)
+  where
+    step : (end : Option Ended) → power_at_end deep piece ≡ end → (closing_at (place + 1) (deep_behind deep piece) ps ≡ Some (at, by) → closing_at (place + 1) (deep_behind deep piece) (take (at - (place + 1) + 1) ps) ≡ Some (at, by))
+        → closing_at place deep (piece ∷ take (at - place) ps) ≡ Some (at, by)
+    step (Some power) h later = closing_end place deep power piece (take (at - place) ps) h ∙ sym (closing_end place deep power piece ps h) ∙ e
+    step None h later =
+        let next = sym (closing_next place deep piece ps h) ∙ e in
+        let past = closing_past (place + 1) (deep_behind deep piece) ps at by next in
+        let k : at - place ≡ at - (place + 1) + 1 = omega (arith, past) in
+        closing_next place deep piece (take (at - place) ps) h ∙ ap (λ (j : ℕ). closing_at (place + 1) (deep_behind deep piece) (take j ps)) k ∙ later next
+
+pub closing_whole : (ps : List Piece) (len : ℕ) (by : Ended) → closing_at 0 0 ps ≡ Some (len, by) → closing_at 0 0 (take (len + 1) ps) ≡ Some (len, by)
+closing_whole ps len by e =
+    let n : len + 1 ≡ len - 0 + 1 = omega arith in
+    ap (λ (k : ℕ). closing_at 0 0 (take k ps)) n ∙ closing_cut 0 0 ps len by e
+
+-- how many pieces stand before the end
+pub ends_within : (all : Meanings) (ps : List Piece) (len : ℕ) (by : Ended) → closing_at 0 0 ps ≡ Some (len, by) → len < length ps
+ends_within all ps len by closes =
+    let h = read_ended all (in_sum (fresh 0)) 0 (in_sum (fresh 0)) [] ps len by closes in
+    omega (arith, h.within)
 
 -- at most one more is open behind a piece
 pub deep_most : (deep : ℕ) (piece : Piece) → deep_behind deep piece ≤ deep + 1

@@ -11,8 +11,8 @@ use Rattle.form_expand.specs.Listing.{Listing, single, limited, pairs, powers}
 use Rattle.form_expand.specs.Next.{IsMade, ListsMade}
 use Rattle.form_expand.specs.Often.{then_by, often, MakesMore}
 use Rattle.form_expand.specs.Singles.{of_product}
-use Rattle.form_expand.proofs.Listings.{pairs_nothing, pairs_refusal}
-use Rattle.form_expand.proofs.NumberPowers.{paired, product_limited, term_once}
+use Rattle.form_expand.proofs.Listings.{limited_within, pairs_nothing, pairs_refusal}
+use Rattle.form_expand.proofs.Rows.{paired, product_limited}
 
 abbrev Answer : Type 0
 Answer = Result (Option Monomial) Cause
@@ -82,13 +82,13 @@ often_unmade front t left Memory all h same = tt
 module _ (max : ℕ) (some : 1 ≤ max) (m : Monomial) where
   -- a product that is 0 or refused stays so
   then_paired : (r : Answer) → limited max (pairs (of_product r) (single m)) ≡ of_product (then_by r (λ x. product_of x m))
-  then_paired (Ok (Some x)) = ap (limited max) (paired max some m x (product_of x m) refl) ∙ product_limited max some m (product_of x m)
-  then_paired (Ok None) = ap (limited max) (pairs_nothing (single m)) ∙ product_limited max some m (Ok None)
-  then_paired (Err cause) = ap (limited max) (pairs_refusal cause (single m)) ∙ product_limited max some m (Err cause)
+  then_paired (Ok (Some x)) = ap (limited max) (paired x m) ∙ product_limited max some (product_of x m)
+  then_paired (Ok None) = ap (limited max) (pairs_nothing (single m)) ∙ product_limited max some (Ok None)
+  then_paired (Err cause) = ap (limited max) (pairs_refusal cause (single m)) ∙ product_limited max some (Err cause)
 
   pub powers_often_from : (k : ℕ) → powers max (single m) (suc k) ≡ of_product (often m m k)
   unfolding powers often
-  powers_often_from zero = term_once max some m
+  powers_often_from zero = limited_within max (single m) some
   powers_often_from (suc k) = ap (λ l. limited max (pairs l (single m))) (powers_often_from k) ∙ then_paired (often m m k)
 
   pub powers_often : (k : ℕ) → 1 ≤ k → powers max (single m) k ≡ of_product (often m m (k - 1))

@@ -1,52 +1,71 @@
--- How a row goes on when terms are taken from its last list that is open.
-use Rattle.std.proofs.Common.{◌≡◌, ℕ, List, [], ◌∷◌, ◌++◌, sym, ap, ◌∙◌}
-use Rattle.std.specs.Prelude.{Some, None, Ok, Err}
+-- Rows of lists.
+use Rattle.std.proofs.Common.{◌≡◌, ℕ, zero, suc, ◌≤◌, List, [], ◌∷◌, ◌++◌, length, refl, sym, ap, ◌∙◌, arith}
+use Rattle.std.specs.Prelude.{Option, Some, None, Result, Ok, Err}
+use Rattle.form_base.specs.declared.cause.Cause.{Cause}
 use Rattle.form_term.specs.declared.monomial.Monomial.{Monomial}
-use Rattle.form_expand.specs.declared.error.ExpandError.{ExpandError}
-use Rattle.form_expand.specs.declared.error.ExpandError.TheVariants.{Refused, Memory}
-use Rattle.form_expand.specs.Listing.{Listing, nothing, before, times}
-use Rattle.form_expand.specs.Left.{Level, Waiting, left_at, left_of_levels, left_past_all, row_left}
-use Rattle.form_expand.specs.Next.{Takes, Goes}
-use Rattle.form_expand.proofs.Levels.{left_of_push, left_past_push, opened_at, refused_past_all, nothing_past_all}
+use Rattle.form_normal.specs.Product.{product_of}
+use Rattle.form_expand.specs.Left.{row, row_behind}
+use Rattle.form_expand.specs.Listing.{Listing, single, before_by, limited, followed_at, times_each, pairs, pairs_each, powers}
+use Rattle.form_expand.specs.Singles.{of_product}
+use Rattle.form_expand.proofs.Listings.{limited_again, limited_nothing, limited_refusal, limited_within}
 
--- a row, by what is left before its last open list
-row_push : (max : ℕ) (below : List Level) (s : Level) (waiting : List Waiting) → row_left max (below ++ s ∷ []) waiting ≡ left_past_all max waiting (left_at max s (left_of_levels max nothing below))
-unfolding row_left
-row_push max below s waiting = ap (left_past_all max waiting) (left_of_push max nothing below s)
+-- lists in two parts
+pub row_apart : (max : ℕ) (front : Listing) (ks ls : List Listing) → row_behind max front (ks ++ ls) ≡ row_behind max (row_behind max front ks) ls
+unfolding row_behind
+row_apart max front [] ls = refl
+row_apart max front (k ∷ ks) ls = row_apart max (limited max (pairs front k)) ks ls
 
-module _ (max : ℕ) (below : List Level) (old new : Level) where
-  -- what is left before it
-  front : Listing
-  front = left_of_levels max nothing below
+-- a further list of a row
+pub row_push : (max : ℕ) (first : Listing) (lists : List Listing) (l : Listing) → row max ((first ∷ lists) ++ l ∷ []) ≡ limited max (pairs (row max (first ∷ lists)) l)
+unfolding row row_behind
+row_push max first lists l = row_apart max (limited max first) lists (l ∷ [])
 
-  pub row_closes : (waiting : List Waiting) → Takes max (Ok None) old new → row_left max (below ++ old ∷ []) waiting ≡ row_left max below (waiting ++ record { count = new.count; list = new.list } ∷ [])
-  unfolding front row_left
-  row_closes waiting h =
-      let w : Waiting = record { count = new.count; list = new.list } in
-      row_push max below old waiting ∙ ap (left_past_all max waiting) (h front) ∙ sym (left_past_push max waiting w front)
+-- behind a front without terms nothing changes
+pub gone_row : (max : ℕ) (end : Option Cause) (ls : List Listing) → row_behind max (record { terms = []; end = end }) ls ≡ record { terms = []; end = end }
+unfolding row_behind pairs_each
+gone_row max end [] = refl
+gone_row max end (l ∷ ls) =
+    ap (λ (front : Listing). row_behind max front ls) (limited_within max (record { terms = []; end = end }) (omega arith)) ∙ gone_row max end ls
 
-  pub row_gives : (m : Monomial) → Takes max (Ok (Some m)) old new → row_left max (below ++ old ∷ []) [] ≡ before m (row_left max (below ++ new ∷ []) [])
-  unfolding front left_past_all
-  row_gives m h = row_push max below old [] ∙ h front ∙ ap (before m) (sym (row_push max below new []))
+-- no terms, to a power
+none_to : (max : ℕ) (end : Option Cause) (k : ℕ) → powers max (record { terms = []; end = end }) (suc k) ≡ limited max (record { terms = []; end = end })
+unfolding powers pairs_each
+none_to max end zero = refl
+none_to max end (suc k) =
+    let none : Listing = record { terms = []; end = end } in
+    ap (λ l. limited max (pairs l none)) (none_to max end k ∙ limited_within max none (omega arith))
 
-  pub row_opens : (m : Monomial) (waiting : List Waiting) (w : Waiting) → Takes max (Ok (Some m)) old new
-      → row_left max (below ++ old ∷ []) (waiting ++ w ∷ []) ≡ row_left max ((below ++ new ∷ []) ++ record { count = w.count; list = w.list; opened = times m w.list } ∷ []) waiting
-  unfolding front
-  row_opens m waiting w h =
-      let s : Level = record { count = w.count; list = w.list; opened = times m w.list } in
-      let opened = opened_at max w.count w.list m (left_at max new front) in
-      row_push max below old (waiting ++ w ∷ [])
-      ∙ ap (left_past_all max (waiting ++ w ∷ [])) (h front)
-      ∙ left_past_push max waiting w (before m (left_at max new front))
-      ∙ ap (left_past_all max waiting) (opened ∙ ap (left_at max s) (sym (left_of_push max nothing below new)))
-      ∙ sym (row_push max (below ++ new ∷ []) s waiting)
+pub none_powered : (max : ℕ) (ms : List Monomial) (end : Option Cause) (k : ℕ) → 1 ≤ k → ms ≡ [] → limited max (record { terms = ms; end = end }) ≡ powers max (record { terms = ms; end = end }) k
+none_powered max ms end zero h e = absurd (omega arith)
+none_powered max ms end (suc k) h e = rw e (sym (none_to max end k))
 
-  pub row_refuses : (waiting : List Waiting) (e : ExpandError) (then : Listing) → Takes max (Err e) old new → Goes (Err e) (row_left max (below ++ old ∷ []) waiting) then
-  unfolding front
-  row_refuses waiting (Refused cause) then h = row_push max below old waiting ∙ ap (left_past_all max waiting) (h front) ∙ refused_past_all max waiting cause
-  row_refuses waiting Memory then h = tt
+pub first_same : (max : ℕ) (l : Listing) (ls : List Listing) → row max (limited max l ∷ ls) ≡ row max (l ∷ ls)
+unfolding row
+first_same max l ls = ap (λ (front : Listing). row_behind max front ls) (limited_again max l)
 
--- a row without an open list
-pub row_done : (max : ℕ) (waiting : List Waiting) → row_left max [] waiting ≡ nothing
-unfolding row_left left_of_levels
-row_done max waiting = nothing_past_all max waiting
+-- the list of a product has one term at most
+pub product_limited : (max : ℕ) → 1 ≤ max → (r : Result (Option Monomial) Cause) → limited max (of_product r) ≡ of_product r
+product_limited max some (Ok (Some m)) = limited_within max (single m) some
+product_limited max some (Ok None) = limited_nothing max
+product_limited max some (Err cause) = limited_refusal max cause
+
+paired_by : (m t : Monomial) (r : Result (Option Monomial) Cause) → product_of m t ≡ r → pairs (single m) (single t) ≡ of_product r
+unfolding pairs_each times_each followed_at
+paired_by m t (Ok (Some p)) e = rw e refl
+paired_by m t (Ok None) e = rw e refl
+paired_by m t (Err cause) e = rw e refl
+
+-- a term, and a list of one term behind it
+pub paired : (m t : Monomial) → pairs (single m) (single t) ≡ of_product (product_of m t)
+paired m t = paired_by m t (product_of m t) refl
+
+-- the product with each term of a list has no more terms than the list
+pub times_length : (m : Monomial) (rs : List Monomial) (end : Option Cause) → length ((times_each m rs end).terms) ≤ length rs
+unfolding times_each
+times_length m [] end = omega arith
+times_length m (r ∷ rs) end = step (product_of m r) (times_length m rs end)
+  where
+    step : (made : Result (Option Monomial) Cause) → length ((times_each m rs end).terms) ≤ length rs → length ((before_by made (times_each m rs end)).terms) ≤ suc (length rs)
+    step (Ok (Some p)) h = omega (arith, h)
+    step (Ok None) h = omega (arith, h)
+    step (Err cause) h = omega arith

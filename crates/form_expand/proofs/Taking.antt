@@ -1,6 +1,7 @@
 -- What taking a term does to a level.
-use Rattle.std.proofs.Common.{◌≡◌, ℕ, suc, ◌+◌, ◌-◌, ◌<◌, ◌≤◌, [], refl, sym, ap, ◌∙◌, arith}
-use Rattle.std.specs.Prelude.{Option, Some, None, Ok, Err}
+use Rattle.std.proofs.Common.{◌≡◌, ℕ, suc, ◌+◌, ◌-◌, ◌<◌, ◌≤◌, [], length, refl, sym, ap, ◌∙◌, arith}
+use Rattle.std.specs.Prelude.{Option, Some, None, Result, Ok, Err, OnOk}
+use Rattle.std.proofs.lemmas.List.{length-drop}
 use Rattle.form_base.specs.declared.cause.Cause.{Cause}
 use Rattle.form_base.specs.declared.cause.Cause.TheVariants.{ExpandLimit}
 use Rattle.form_term.specs.declared.monomial.Monomial.{Monomial}
@@ -8,8 +9,9 @@ use Rattle.form_expand.specs.declared.error.ExpandError.{ExpandError}
 use Rattle.form_expand.specs.declared.error.ExpandError.TheVariants.{Refused, Memory}
 use Rattle.form_expand.specs.Listing.{Listing, nothing, refusal, before, before_by, limited}
 use Rattle.form_expand.specs.Left.{Level, left_at, left_past, product_by, times_by}
-use Rattle.form_expand.specs.Kept.{ended_by}
-use Rattle.form_expand.specs.Next.{Gives, Goes, Takes, IsMade, progress_of}
+use Rattle.form_expand.specs.Kept.{ended_by, rest_at}
+use Rattle.form_expand.specs.Moving.{Lessens}
+use Rattle.form_expand.specs.Next.{Gives, Takes, IsMade}
 use Rattle.form_expand.proofs.Listings.{times_end, limited_more, limited_none, limited_within}
 use Rattle.form_expand.proofs.Levels.{taken_at, over_at, refused_at, done_at, times_by_before}
 
@@ -83,30 +85,39 @@ pub gives_end : (end : Option Cause) (old new : Listing) → old ≡ at_end end 
 gives_end None old new e same = (e, same refl)
 gives_end (Some cause) old new e same = e
 
--- a product was made
-pub goes_made : (left : Option Monomial) (t : Monomial) (made : Option Monomial) (rest more : Listing) → rest ≡ before t more → product_by left t ≡ Ok made → Goes (Ok (progress_of made)) (times_by left rest) (times_by left more)
-goes_made left t None rest more first made = sym (times_by_zero left t rest more first made)
-goes_made left t (Some m) rest more first made = times_by_made left t m rest more first made
-
 -- where a product wasn't made
 pub gives_unmade : (left : Option Monomial) (t : Monomial) (rest more : Listing) (e : ExpandError) (new : Listing) → rest ≡ before t more → IsMade (Err e) (product_by left t) → Gives (Err e) (times_by left rest) new
 gives_unmade left t rest more (Refused cause) new first made = times_by_refused left t cause rest more first made
 gives_unmade left t rest more Memory new first made = tt
-
-pub goes_unmade : (left : Option Monomial) (t : Monomial) (rest more : Listing) (e : ExpandError) (new : Listing) → rest ≡ before t more → IsMade (Err e) (product_by left t) → Goes (Err e) (times_by left rest) new
-goes_unmade left t rest more (Refused cause) new first made = times_by_refused left t cause rest more first made
-goes_unmade left t rest more Memory new first made = tt
 
 -- where the next term of the right list wasn't given
 pub gives_times_err : (left : Option Monomial) (e : ExpandError) (old new then : Listing) → Gives (Err e) old new → Gives (Err e) (times_by left old) then
 gives_times_err left (Refused cause) old new then h = ap (times_by left) h ∙ times_by_end left (Some cause)
 gives_times_err left Memory old new then h = tt
 
-pub goes_times_err : (left : Option Monomial) (e : ExpandError) (old new then : Listing) → Gives (Err e) old new → Goes (Err e) (times_by left old) then
-goes_times_err left (Refused cause) old new then h = ap (times_by left) h ∙ times_by_end left (Some cause)
-goes_times_err left Memory old new then h = tt
-
 -- where the next term of a level's pairing wasn't given
 pub takes_ungiven : (max : ℕ) (old new : Level) (e : ExpandError) (then : Listing) → Gives (Err e) old.opened then → Takes max (Err e) old new
 takes_ungiven max old new (Refused cause) then h = takes_refused max old cause new h
 takes_ungiven max old new Memory then h = tt
+
+-- a term that was given is gone
+pub lessens_given : (r : Result (Option Monomial) ExpandError) (old new : Listing) → Gives r old new → Lessens r old new
+lessens_given (Ok (Some m)) old new gave = omega (arith, ap (λ (l : Listing). length l.terms) gave)
+lessens_given (Ok None) old new gave = tt
+lessens_given (Err e) old new gave = tt
+
+-- a list that has all its terms
+all_rest : (n place : ℕ) (l : Listing) → n ≡ length l.terms → limited (n - place) (rest_at place l) ≡ rest_at place l
+all_rest n place l all = limited_within (n - place) (rest_at place l) (omega (arith, all, length-drop place l.terms))
+
+pub all_given : (r : Result (Option Monomial) ExpandError) (left then : Option Monomial) (place next n : ℕ) (old new : Listing) → n ≡ length old.terms → OnOk r (new ≡ old)
+    → Gives r (times_by left (limited (n - place) (rest_at place old))) (times_by then (limited (n - next) (rest_at next new))) → Gives r (times_by left (rest_at place old)) (times_by then (rest_at next new))
+all_given (Ok (Some m)) left then place next n old new all same gave =
+    ap (times_by left) (sym (all_rest n place old all)) ∙ gave
+    ∙ ap (λ l. before m (times_by then l)) (all_rest n next new (all ∙ ap (λ (l : Listing). length l.terms) (sym same)))
+all_given (Ok None) left then place next n old new all same gave = (
+  ap (times_by left) (sym (all_rest n place old all)) ∙ gave.0,
+  ap (times_by then) (sym (all_rest n next new (all ∙ ap (λ (l : Listing). length l.terms) (sym same)))) ∙ gave.1,
+)
+all_given (Err (Refused cause)) left then place next n old new all same gave = ap (times_by left) (sym (all_rest n place old all)) ∙ gave
+all_given (Err Memory) left then place next n old new all same gave = tt

@@ -21,8 +21,9 @@ use Rattle.form_expand.specs.Numbers.{number_list, symbol_list}
 use Rattle.form_expand.specs.Singles.{imaginary_list, dot_list, component_list, delta_list, function_list, argument_of, one_argument, with_arguments}
 use Rattle.form_expand.specs.declared.ended.Ended.{Ended}
 use Rattle.form_expand.specs.Reading.{Part, Calling, Frame, in_sum, in_function, Reading, fresh, closed, closing, linked, list_of_frame, with_factor, fed, read_from, list_of_pieces}
-use Rattle.form_expand.proofs.Listings.{limited_within, limited_length, limited_again, limited_powers, limited_nothing, signed_length, followed_nothing}
-use Rattle.form_expand.proofs.Products.{row_push}
+use Rattle.form_expand.proofs.Behind.{closed_fresh}
+use Rattle.form_expand.proofs.Listings.{limited_within, limited_length, limited_again, limited_powers, signed_length, followed_nothing}
+use Rattle.form_expand.proofs.Rows.{row_push}
 
 -- the lists of the factors of a product, in order
 abbrev first_factor : Product → Factor
@@ -92,14 +93,10 @@ module _ (max : ℕ) (all : Meanings) where
       row_push max (list_of_factor max all (first_factor p)) (later_lists p) (list_of_factor max all f)
       ∙ ap (λ l. limited max (pairs l (list_of_factor max all f))) (row_of_product p)
 
-  closed_fresh : closed (fresh max) ≡ nothing
-  unfolding closed row
-  closed_fresh = ap (limited max) (followed_nothing nothing) ∙ limited_nothing max
-
   list_of_part : (s : Sum) → closed (part_of s) ≡ list_of_sum max all s
   unfolding closed list_of_sum
   list_of_part (tree.first is_minus p) =
-      ap (λ l. limited max (followed l (signed is_minus (row max (lists_of p))))) closed_fresh
+      ap (λ l. limited max (followed l (signed is_minus (row max (lists_of p))))) (closed_fresh max)
       ∙ ap (limited max) (followed_nothing (signed is_minus (row max (lists_of p))))
       ∙ ap (λ l. limited max (signed is_minus l)) (row_of_product p)
       ∙ limited_signed is_minus (list_of_product max all p) (limited_product p)

@@ -1,32 +1,34 @@
--- Factors of a product: what their lists are, and what is left of them. A sum in parentheses has a limit of its own.
-use Rattle.std.specs.Prelude.{ℕ, suc, Bool, true, false}
-use Rattle.form_expand.specs.declared.factor.Factor.{Factor}
-use Rattle.form_expand.specs.declared.factor.Factor.TheVariants as factors
-use Rattle.form_expand.specs.Inner.{Unwritten}
-use Rattle.form_expand.specs.Listing.{Listing, powers}
-use Rattle.form_expand.specs.Reading.{calling}
-use Rattle.form_expand.specs.Readers.{list_of_calling}
-use Rattle.form_expand.specs.Walks.{walk_whole, walk_left, power_whole, power_left}
+-- The factors of a product while they are read.
+use Rattle.std.specs.Prelude.{◌≡◌, ◌≤◌, ◌⊎◌, ℕ, List, [], ◌∷◌, ◌++◌, Option, Some, None, Result, Ok, Err, length, map, option_to_list}
+use Rattle.form_term.specs.declared.monomial.Monomial.{Monomial}
+use Rattle.form_expand.specs.declared.error.ExpandError.{ExpandError}
+use Rattle.form_expand.specs.declared.error.ExpandError.TheVariants.{Refused, Memory}
+use Rattle.form_expand.specs.declared.factors.Factors.{Factors}
+use Rattle.form_expand.specs.declared.whole.Whole.{Whole}
+use Rattle.form_expand.specs.Left.{row}
+use Rattle.form_expand.specs.Listing.{Listing, nothing, single, refusal}
+use Rattle.form_expand.specs.Lists.{list_whole}
+use Rattle.form_expand.specs.Walks.{IsAlone}
 
--- a function to a power, by the pieces of its arguments
-abbrev pub function_whole : ℕ → Unwritten → Listing
-function_whole max f = powers max (list_of_calling f.stored (calling max f.function f.is_commuting) f.pieces) (suc f.later)
+-- the front, where there is one, and the lists behind it
+abbrev pub factor_lists : ℕ → Factors → List Listing
+factor_lists max f = map single (option_to_list f.front) ++ map (list_whole max) f.lists.items
 
-abbrev pub factor_whole : ℕ → Factor → Listing
-factor_whole max (factors.Once walk) = walk_whole max walk
-factor_whole max (factors.Power power) = power_whole max power.value
-factor_whole max (factors.Parenthesis inner) = inner.value.whole
-factor_whole max (factors.Function f) = function_whole max f
+-- lists make the same row as others, whatever stands behind them
+abbrev pub IsSameRow : ℕ → List Listing → List Listing → Type 0
+IsSameRow max old new = (more : List Listing) → row max (old ++ more) ≡ row max (new ++ more)
 
-abbrev pub factor_left : ℕ → Factor → Listing
-factor_left max (factors.Once walk) = walk_left max walk
-factor_left max (factors.Power power) = power_left max power.value
-factor_left max (factors.Parenthesis inner) = inner.value.left
-factor_left max (factors.Function f) = function_whole max f
+-- lists are what was made: its term, or that it is 0 or refused
+abbrev pub AreMade : ℕ → Result (Option Monomial) ExpandError → List Listing → Type 0
+AreMade max (Ok (Some m)) lists = IsSameRow max (single m ∷ []) lists
+AreMade max (Ok None) lists = IsSameRow max (nothing ∷ []) lists
+AreMade max (Err (Refused cause)) lists = IsSameRow max (refusal cause ∷ []) lists
+AreMade max (Err Memory) lists = ⊥
 
--- a list that is there as a whole
-abbrev pub is_once : Factor → Bool
-is_once (factors.Once walk) = true
-is_once (factors.Power power) = false
-is_once (factors.Parenthesis inner) = false
-is_once (factors.Function f) = false
+-- a list has one term at most, and isn't refused behind it
+abbrev pub IsOneAtMost : Listing → Type 0
+IsOneAtMost l = (length l.terms ≤ 1) × ((l.terms ≡ []) ⊎ (l.end ≡ None))
+
+-- a list to a power is one term at most without going through it: it is the power 0, or one of a list of one term
+abbrev pub IsShortPower : ℕ → Whole → ℕ → Type 0
+IsShortPower max w power = (power ≡ 0) ⊎ IsAlone max w

@@ -1,4 +1,4 @@
--- What is left of a row of lists that are paired while their terms are taken one by one, deepest first.
+-- Lists that are paired from the left, and what is left of one while its terms are taken one by one.
 use Rattle.std.specs.Prelude.{ℕ, ◌-◌, List, [], ◌∷◌, Option, Some, None, Result, Ok}
 use Rattle.form_term.specs.declared.monomial.Monomial.{Monomial}
 use Rattle.form_normal.specs.Product.{product_of}
@@ -24,16 +24,6 @@ left_at max s before = limited (max - s.count) (followed s.opened (pairs before 
 unfoldable pub left_past : ℕ → Waiting → Listing → Listing
 left_past max w before = limited (max - w.count) (pairs before w.list)
 
--- what is left of the front up to the last of these levels
-unfoldable pub left_of_levels : ℕ → Listing → List Level → Listing
-left_of_levels max before [] = before
-left_of_levels max before (s ∷ levels) = left_of_levels max (left_at max s before) levels
-
--- what is left past the lists that wait, the last of which is the next one
-unfoldable pub left_past_all : ℕ → List Waiting → Listing → Listing
-left_past_all max [] before = before
-left_past_all max (w ∷ waiting) before = left_past max w (left_past_all max waiting before)
-
 -- a term, or none at the front of a row, times a term
 abbrev pub product_by : Option Monomial → Monomial → Result (Option Monomial) Cause
 product_by None r = Ok (Some r)
@@ -42,11 +32,6 @@ product_by (Some m) r = product_of m r
 abbrev pub times_by : Option Monomial → Listing → Listing
 times_by None l = l
 times_by (Some m) l = times m l
-
--- What is left of a row: of the lists that terms are being taken from, in order, and of those that wait, the next one
--- last.
-unfoldable pub row_left : ℕ → List Level → List Waiting → Listing
-row_left max opened waiting = left_past_all max waiting (left_of_levels max nothing opened)
 
 -- Lists paired one after the other from the left, where this is the front before them; each front is a list, and limited.
 unfoldable pub row_behind : ℕ → Listing → List Listing → Listing

@@ -4,8 +4,6 @@ use Rattle.form_term.specs.declared.monomial.Monomial.{Monomial}
 use Rattle.form_base.specs.declared.cause.Cause.{Cause}
 use Rattle.form_expand.specs.declared.error.ExpandError.{ExpandError}
 use Rattle.form_expand.specs.declared.error.ExpandError.TheVariants.{Refused, Memory}
-use Rattle.form_expand.specs.declared.progress.Progress.{Progress}
-use Rattle.form_expand.specs.declared.progress.Progress.TheVariants as progress
 use Rattle.form_expand.specs.Listing.{Listing, nothing, single, refusal, before}
 use Rattle.form_expand.specs.Left.{Level, left_at, left_past}
 
@@ -24,14 +22,6 @@ Takes max (Ok None) old new = (x : Listing) → left_at max old x ≡ left_past 
 Takes max (Err (Refused cause)) old new = (x : Listing) → left_at max old x ≡ refusal cause
 Takes max (Err Memory) old new = Unit {0}
 
--- a step towards the next term
-abbrev pub Goes : Result Progress ExpandError → Listing → Listing → Type 0
-Goes (Ok progress.Moves) old new = new ≡ old
-Goes (Ok (progress.Gives m)) old new = old ≡ before m new
-Goes (Ok progress.Done) old new = (old ≡ nothing) × (new ≡ nothing)
-Goes (Err (Refused cause)) old new = old ≡ refusal cause
-Goes (Err Memory) old new = Unit {0}
-
 -- a product, none where it is 0, or its refusal
 abbrev pub IsMade : Result (Option Monomial) ExpandError → Result (Option Monomial) Cause → Type 0
 IsMade (Ok m) made = made ≡ Ok m
@@ -44,8 +34,3 @@ ListsMade (Ok (Some m)) l = l ≡ single m
 ListsMade (Ok None) l = l ≡ nothing
 ListsMade (Err (Refused cause)) l = l ≡ refusal cause
 ListsMade (Err Memory) l = ⊥
-
--- a step that gives a product, and moves on where it is 0
-abbrev pub progress_of : Option Monomial → Progress
-progress_of None = progress.Moves
-progress_of (Some m) = progress.Gives m

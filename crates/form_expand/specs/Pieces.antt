@@ -1,5 +1,5 @@
 -- Factors that are one piece.
-use Rattle.std.specs.Prelude.{ℕ, Option, Some, None}
+use Rattle.std.specs.Prelude.{◌≡◌, ℕ, List, [], ◌∷◌, Option, Some, None}
 use Rattle.form_tree.specs.declared.tree.Piece.{Piece}
 use Rattle.form_tree.specs.declared.tree.Piece.TheVariants as pieces
 use Rattle.form_expand.specs.Bound.{wild_list, exponent_in, list_of_base}
@@ -32,6 +32,11 @@ list_of_piece all pieces.EndOfArgument = None
 list_of_piece all (pieces.Open link) = None
 list_of_piece all (pieces.Close power) = None
 list_of_piece all (pieces.CloseRaised by) = None
+
+-- these pieces begin with such a factor
+abbrev pub BeginsWith : Meanings → Listing → ℕ → List Piece → Type 0
+BeginsWith all l power [] = ⊥
+BeginsWith all l power (piece ∷ more) = list_of_piece all piece ≡ Some (l, power)
 
 -- the same of `i_` and of what is made of vectors and indices
 abbrev pub list_of_vectors : Meanings → Piece → Option (Listing × ℕ)

@@ -1,48 +1,64 @@
 -- What is left of a product.
-use Rattle.std.specs.Prelude.{ℕ, ◌≤◌, List, ◌++◌, length, map, option_to_list, Option}
-use Rattle.std.specs.List.{AllByRecursion}
+use Rattle.std.specs.Prelude.{◌≡◌, ℕ, zero, suc, List, [], ◌∷◌, map, Option, Result, OnOk}
 use Rattle.form_term.specs.declared.monomial.Monomial.{Monomial}
+use Rattle.form_expand.specs.declared.error.ExpandError.{ExpandError}
+use Rattle.form_expand.specs.declared.list.List as lists
 use Rattle.form_expand.specs.declared.product.Level as levels
-use Rattle.form_expand.specs.declared.product.Queued.{Queued}
 use Rattle.form_expand.specs.declared.product.Product.{Product}
-use Rattle.form_expand.specs.Factors.{factor_whole, factor_left}
-use Rattle.form_expand.specs.Left.{Level, Waiting, row_left, times_by}
-use Rattle.form_expand.specs.Listing.{Listing}
-use Rattle.form_expand.specs.Moving.{distance}
+use Rattle.form_expand.specs.Left.{Level, Waiting, left_at, left_past, times_by}
+use Rattle.form_expand.specs.Listing.{Listing, nothing}
+use Rattle.form_expand.specs.Lists.{list_whole, list_left}
+use Rattle.form_expand.specs.Moving.{Lessens}
+use Rattle.form_expand.specs.Next.{Takes}
 
+-- what is left of the pairing with the term before it
+abbrev pub level_left : ℕ → levels.Level → Listing
+level_left max l = times_by l.left (list_left max l.list)
+
+-- a level as one that terms are being taken from, and as one that waits
 abbrev pub level_of : ℕ → levels.Level → Level
-level_of max l = record { count = l.count; list = factor_whole max l.factor; opened = times_by l.left (factor_left max l.factor) }
+level_of max l = record { count = l.count; list = list_whole max l.list; opened = level_left max l }
 
-abbrev pub waiting_of : ℕ → Queued → Waiting
-waiting_of max q = record { count = q.count; list = factor_whole max q.factor }
+abbrev pub level_waiting : ℕ → levels.Level → Waiting
+level_waiting max l = record { count = l.count; list = list_whole max l.list }
 
--- a factor that terms are to be taken from, from the first on
-abbrev pub level_at_first : ℕ → Queued → Option Monomial → Level
-level_at_first max q left = record { count = q.count; list = factor_whole max q.factor; opened = times_by left (factor_whole max q.factor) }
+-- a list that no terms were taken from
+abbrev pub list_waiting : ℕ → lists.List → Waiting
+list_waiting max l = record { count = 0; list = list_whole max l }
 
--- a factor that no more terms are to be taken from
-abbrev pub queued_of : levels.Level → Queued
-queued_of l = record { factor = l.factor; count = l.count }
+-- what is left past lists that wait, the next one first
+unfoldable pub left_behind : ℕ → Listing → List Waiting → Listing
+left_behind max front [] = front
+left_behind max front (w ∷ waiting) = left_behind max (left_past max w front) waiting
 
--- a product, by its factors that terms are being taken from and those that wait
-unfoldable pub levels_left : ℕ → List levels.Level → List Queued → Listing
-levels_left max opened waiting = row_left max (map (level_of max) opened) (map (waiting_of max) waiting)
+-- What is left of levels of which those up to a place are open, where this is left of the front before them. Past the last
+-- one nothing is left.
+unfoldable pub levels_behind : ℕ → Listing → List levels.Level → ℕ → Listing
+levels_behind max front [] place = nothing
+levels_behind max front (l ∷ levels) zero = left_behind max (left_at max (level_of max l) front) (map (level_waiting max) levels)
+levels_behind max front (l ∷ levels) (suc place) = levels_behind max (left_at max (level_of max l) front) levels place
 
 abbrev pub product_left : ℕ → Product → Listing
-product_left max p = levels_left max (p.below.items ++ option_to_list p.top) p.waiting.items
+product_left max p = levels_behind max nothing p.levels.items p.place
 
--- how far a product is from its end
-abbrev pub product_distance : ℕ → Product → List ℕ
-product_distance max p = distance (map (level_of max) p.below.items) (map (level_of max) (option_to_list p.top)) (length p.waiting.items)
+-- one of these is changed so, the one at a place
+abbrev pub ChangesAt : (levels.Level → levels.Level → Type 0) → ℕ → List levels.Level → List levels.Level → Type 0
+ChangesAt Changes place [] new = ⊥
+ChangesAt Changes place (l ∷ old) [] = ⊥
+ChangesAt Changes zero (l ∷ old) (n ∷ new) = Changes l n × (new ≡ old)
+ChangesAt Changes (suc place) (l ∷ old) (n ∷ new) = (n ≡ l) × ChangesAt Changes place old new
 
--- A list that terms are being taken from has at most so many, and so has what is left of it.
-abbrev pub IsShort : ℕ → Level → Type 0
-IsShort most s = (length s.list.terms ≤ most) × (length s.opened.terms ≤ most)
+-- a term was asked for
+pub record IsTaken (max : ℕ) (r : Result (Option Monomial) ExpandError) (old new : levels.Level) : Type 0 where
+  pub next : Takes max r (level_of max old) (level_of max new)
+  pub fewer : Lessens r (level_left max old) (level_left max new)
+  pub whole : OnOk r (list_whole max new.list ≡ list_whole max old.list)
 
-abbrev pub WaitsShort : ℕ → Waiting → Type 0
-WaitsShort most w = length w.list.terms ≤ most
+-- terms are taken from the first on, for a term of the front before it, or none
+abbrev pub IsBegun : Option Monomial → levels.Level → levels.Level → Type 0
+IsBegun left old new = (max : ℕ) → level_of max new ≡ record { count = old.count; list = list_whole max old.list; opened = times_by left (list_whole max old.list) }
 
--- so have all lists of a product
-abbrev pub AreShort : ℕ → ℕ → Product → Type 0
-AreShort max most p =
-    AllByRecursion (λ (l : levels.Level). IsShort most (level_of max l)) (p.below.items ++ option_to_list p.top) × AllByRecursion (λ (q : Queued). WaitsShort most (waiting_of max q)) p.waiting.items
+-- no more terms are taken from the level at a place: the one before it comes next, and nothing is left behind the first
+abbrev pub IsClosed : ℕ → List levels.Level → ℕ → List levels.Level → Type 0
+IsClosed zero old place new = new ≡ []
+IsClosed (suc before) old place new = (place ≡ before) × (new ≡ old)

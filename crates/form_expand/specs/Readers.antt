@@ -7,7 +7,18 @@ use Rattle.form_tree.specs.declared.tree.Piece.TheVariants as pieces
 use Rattle.form_expand.specs.Meanings.{Meanings}
 use Rattle.form_expand.specs.Left.{row}
 use Rattle.form_expand.specs.Listing.{Listing, nothing, limited, followed, signed}
-use Rattle.form_expand.specs.Reading.{Part, Calling, Frame, in_sum, in_function, Reading, fresh, calling, begins_product, read_from, list_of_pieces}
+use Rattle.form_expand.specs.Reading.{Part, Calling, Frame, in_sum, in_function, Reading, fresh, calling, link_of_piece, begins_product, read_from, list_of_pieces}
+
+-- the first factor of a product alone has a sign before it: these pieces are its first, or begin with a further factor
+abbrev pub IsSignedFirst : List Piece → List Listing → Type 0
+IsSignedFirst [] factors = Unit {0}
+IsSignedFirst (p ∷ ps) factors = (factors ≡ [] → ⊥) → link_of_piece p ≡ links.Times
+
+-- a sum in parentheses begins there
+abbrev pub BeginsSum : List Piece → Type 0
+BeginsSum (pieces.Open link ∷ ps) = Unit {0}
+BeginsSum (pieces.Argument ∷ ps) = Unit {0}
+BeginsSum ps = ⊥
 
 abbrev pub is_minus_link : Link → Bool
 is_minus_link links.Plus = false
@@ -16,26 +27,7 @@ is_minus_link links.Times = false
 
 -- whether the product that begins with this piece is subtracted
 abbrev pub is_minus_piece : Piece → Bool
-is_minus_piece (pieces.Number link value power) = is_minus_link link
-is_minus_piece (pieces.Symbol link symbol power) = is_minus_link link
-is_minus_piece (pieces.Wild link symbol is_over power) = is_minus_link link
-is_minus_piece (pieces.Raised link base by) = is_minus_link link
-is_minus_piece (pieces.Stored link expression power) = is_minus_link link
-is_minus_piece (pieces.Imaginary link power) = is_minus_link link
-is_minus_piece (pieces.Dot link p q power) = is_minus_link link
-is_minus_piece (pieces.Component link c power) = is_minus_link link
-is_minus_piece (pieces.Delta link i j power) = is_minus_link link
-is_minus_piece (pieces.Function link f is_commuting) = is_minus_link link
-is_minus_piece (pieces.EndOfFunction power) = false
-is_minus_piece (pieces.EndOfRaisedFunction by) = false
-is_minus_piece (pieces.Field w) = false
-is_minus_piece (pieces.Index i) = false
-is_minus_piece (pieces.Vector v) = false
-is_minus_piece pieces.Argument = false
-is_minus_piece pieces.EndOfArgument = false
-is_minus_piece (pieces.Open link) = is_minus_link link
-is_minus_piece (pieces.Close power) = false
-is_minus_piece (pieces.CloseRaised by) = false
+is_minus_piece p = is_minus_link (link_of_piece p)
 
 -- a piece as that of a further factor
 abbrev pub joined : Piece → Piece
@@ -79,6 +71,11 @@ EndsProduct (p ∷ ps) = begins_product p ≡ true
 -- this piece and perhaps more were read, which makes these factors those
 abbrev pub IsReadFactor : ℕ → Meanings → Piece → List Piece → List Listing → List Listing → List Piece → Type 0
 IsReadFactor max all piece more old new rest = (is_minus : Bool) → read_from all (in_product max is_minus old) (joined piece ∷ more) ≡ read_from all (in_product max is_minus new) rest
+
+-- the factor that these pieces begin with was read
+abbrev pub IsReadAt : ℕ → Meanings → List Piece → List Listing → List Listing → List Piece → Type 0
+IsReadAt max all [] old new rest = (new ≡ old) × (rest ≡ [])
+IsReadAt max all (piece ∷ more) old new rest = IsReadFactor max all piece more old new rest
 
 -- the same behind the piece that begins a parenthesis, or a function
 abbrev pub IsReadWithin : Frame → ℕ → Meanings → List Piece → List Listing → List Listing → List Piece → Type 0

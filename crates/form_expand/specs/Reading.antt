@@ -164,6 +164,29 @@ read_from all r (piece ∷ more) = read_from all (fed all r piece) more
 abbrev pub list_of_pieces : ℕ → Meanings → List Piece → Listing
 list_of_pieces max all pieces = read_from all (beginning max) pieces
 
+-- how what begins with this piece stands to what is before it; what begins nothing goes on
+abbrev pub link_of_piece : Piece → Link
+link_of_piece (pieces.Number link value power) = link
+link_of_piece (pieces.Symbol link symbol power) = link
+link_of_piece (pieces.Wild link symbol is_over power) = link
+link_of_piece (pieces.Raised link base by) = link
+link_of_piece (pieces.Stored link expression power) = link
+link_of_piece (pieces.Imaginary link power) = link
+link_of_piece (pieces.Dot link p q power) = link
+link_of_piece (pieces.Component link c power) = link
+link_of_piece (pieces.Delta link i j power) = link
+link_of_piece (pieces.Function link f is_commuting) = link
+link_of_piece (pieces.EndOfFunction power) = links.Times
+link_of_piece (pieces.EndOfRaisedFunction by) = links.Times
+link_of_piece (pieces.Field w) = links.Times
+link_of_piece (pieces.Index i) = links.Times
+link_of_piece (pieces.Vector v) = links.Times
+link_of_piece pieces.Argument = links.Times
+link_of_piece pieces.EndOfArgument = links.Times
+link_of_piece (pieces.Open link) = link
+link_of_piece (pieces.Close power) = links.Times
+link_of_piece (pieces.CloseRaised by) = links.Times
+
 -- whether a product begins with this piece
 abbrev pub begins : Link → Bool
 begins links.Plus = true
@@ -171,23 +194,4 @@ begins links.Minus = true
 begins links.Times = false
 
 abbrev pub begins_product : Piece → Bool
-begins_product (pieces.Number link value power) = begins link
-begins_product (pieces.Symbol link symbol power) = begins link
-begins_product (pieces.Wild link symbol is_over power) = begins link
-begins_product (pieces.Raised link base by) = begins link
-begins_product (pieces.Stored link expression power) = begins link
-begins_product (pieces.Imaginary link power) = begins link
-begins_product (pieces.Dot link p q power) = begins link
-begins_product (pieces.Component link c power) = begins link
-begins_product (pieces.Delta link i j power) = begins link
-begins_product (pieces.Function link f is_commuting) = begins link
-begins_product (pieces.EndOfFunction power) = false
-begins_product (pieces.EndOfRaisedFunction by) = false
-begins_product (pieces.Field w) = false
-begins_product (pieces.Index i) = false
-begins_product (pieces.Vector v) = false
-begins_product pieces.Argument = false
-begins_product pieces.EndOfArgument = false
-begins_product (pieces.Open link) = begins link
-begins_product (pieces.Close power) = false
-begins_product (pieces.CloseRaised by) = false
+begins_product p = begins (link_of_piece p)

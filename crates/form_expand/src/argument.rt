@@ -5,15 +5,13 @@ ghost use Rattle.form_expand.specs.Alone.{arguments_alone, expression_alone, pie
 ghost use Rattle.form_expand.specs.Expanding.{arguments_in};
 
 use crate::function::collected;
+use crate::scope::Scope;
 use crate::stored::Standing;
 use crate::stream::Stream;
 use form_base::Id;
 use form_term::{Arguments, Call};
 use form_tree::Piece;
 use std::alloc::{AllocError, Global};
-
-/// How many products of numbers and symbols a sum in parentheses may have that is read at once.
-const MOST_WITHIN: usize = 256;
 
 /// An argument as that of a function, which is the name 0: what it is where its lists have at most `limit` terms, and none
 /// where it is refused.
@@ -62,7 +60,7 @@ fn expression(
     ensures { IfOk result (λ found. found ≡ pieces_unless_refused (expression_alone limit names.now pieces.now)) }
 {
     let (within, _) = pieces.split_at(pieces.len().saturating_sub(1));
-    let mut list = Stream::new(alloc, within, limit, names, MOST_WITHIN);
+    let mut list = Stream::new(alloc, Scope::new(limit, names), within);
     match collected(alloc, &mut list, u64::MAX)? {
         Ok(terms) => Ok(Some(Arguments::new(alloc).with_expression(&terms)?)),
         Err(_) => Ok(None),

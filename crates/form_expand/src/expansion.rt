@@ -7,6 +7,7 @@ ghost use Rattle.form_expand.specs.Reading.{list_of_pieces};
 
 use crate::ExpandError;
 use crate::literal_sum::literal_list;
+use crate::scope::Scope;
 use crate::stored::Standing;
 use crate::stream::Stream;
 use crate::whole::Whole;
@@ -14,10 +15,6 @@ use form_term::Monomial;
 use form_tree::Piece;
 use std::alloc::{AllocError, Global};
 use std::marker::Model;
-
-/// How many products of numbers and symbols a sum in parentheses may have that is read at once, where it stands within no
-/// other. All of them together are no more than the text has.
-const MOST_OUTSIDE: usize = 65_536;
 
 /// The list of a right side, whose terms are made one by one as they are asked for: in a clause what is left of it.
 pub struct Expansion<'a> {
@@ -60,7 +57,7 @@ pub fn expand_tree<'a>(
     ensures { (s : Sum) → tree.now ≡ pieces_of_sum s → result ≡ list_of_sum limit stored.now s }
 {
     Expansion {
-        stream: Stream::new(alloc, tree, limit, stored, MOST_OUTSIDE),
+        stream: Stream::new(alloc, Scope::new(limit, stored), tree),
     }
 }
 
@@ -88,7 +85,7 @@ pub fn list_of<'a>(
     if let Some(whole) = literal_list(alloc, names, pieces, limit)? {
         return Ok(whole);
     }
-    let stream = Stream::new(alloc, pieces, limit, names, MOST_OUTSIDE);
+    let stream = Stream::new(alloc, Scope::new(limit, names), pieces);
     drained(alloc, &mut Expansion { stream })
 }
 

@@ -1,55 +1,53 @@
-ghost use Rattle.std.specs.Prelude.{◌≡◌, ◌↔◌, ◌≤◌, [], ◌++◌, ℕ, Some, None, Ok, IfOk, IfSome, IsTrue, OnOk, map, option_to_list, replicate};
-ghost use Rattle.form_term.specs.declared.monomial.Monomial.{Monomial as Item};
-ghost use Rattle.form_term.specs.Term.{one};
+//! Powers of lists, as factors of a product.
+ghost use Rattle.std.specs.Prelude.{◌≡◌, ◌↔◌, ◌≤◌, [], ◌∷◌, ◌++◌, ℕ, IfOk, IfSome, IsSome, OnOk};
+ghost use Rattle.form_expand.specs.Bound.{powered, powered_by};
+ghost use Rattle.form_expand.specs.Factors.{IsOneAtMost, IsSameRow, IsShortPower, factor_lists};
 ghost use Rattle.form_expand.specs.Kept.{listing};
-ghost use Rattle.form_expand.specs.Left.{times_by};
-ghost use Rattle.form_expand.specs.Listing.{limited, powers, single};
-ghost use Rattle.form_expand.specs.Moving.{Lessens, Nears};
-ghost use Rattle.form_expand.specs.Next.{Gives, Goes, ListsMade, Takes};
-ghost use Rattle.form_expand.specs.Walks.{opened_list, step_level, power_distance, power_left, power_whole};
+ghost use Rattle.form_expand.specs.Listing.{Listing, limited, powers};
+ghost use Rattle.form_expand.specs.Lists.{list_whole};
+ghost use Rattle.form_expand.specs.Next.{ListsMade};
+ghost use Rattle.form_expand.specs.Pieces.{BeginsWith};
+ghost use Rattle.form_expand.specs.Readers.{IsSignedFirst};
+ghost use Rattle.form_expand.specs.Reading.{list_of_pieces};
 
 use crate::ExpandError;
-use crate::bound::is_invertible;
-use crate::number::fraction_list;
-use crate::progress::Progress;
+use crate::again::{list_again, list_once};
+use crate::ended::Ended;
+use crate::factors::Factors;
+use crate::list::List;
+use crate::reader::piece_list;
 use crate::repeated::times_often;
-use crate::times::{times, times_owned};
+use crate::scope::Scope;
+use crate::stored::Standing;
+use crate::walk::Walk;
 use crate::whole::Whole;
 use form_base::Cause;
-use form_term::{Monomial, Term};
+use form_term::Monomial;
+use form_tree::Piece;
 use std::alloc::{AllocError, Global};
-use std::mem;
 
-/// A list of one term to a power, as a list; none where it isn't one term, or may have none.
-pub fn single_power<'a>(
+/// A list to a power that is one term at most without going through it; none of any other.
+fn short_power<'a>(
     alloc: Global,
     limit: u64,
     whole: &Whole,
     power: u128,
 ) -> Result<Option<Whole<'a>>, AllocError>
-    requires { 1 ≤ power }
-    ensures some { IfOk result (λ found. IfSome found (λ made. limited limit (listing made) ≡ powers limit (listing whole.now) power)) }
-    ensures none { result ≡ Ok None → (t : Item) → listing whole.now ≡ single t → limit ≡ 0 }
+    ensures short { IfOk result (λ found. IsSome found ↔ IsShortPower limit whole.now power) }
+    ensures list { IfOk result (λ found. IfSome found (λ made. limited limit (listing made) ≡ powers limit (listing whole.now) power)) }
 {
+    if power == 0 {
+        return Ok(Some(Whole::single(Monomial::unit(alloc))));
+    }
     if !whole.is_alone(limit) {
         return Ok(None);
     }
-    let [term] = whole.terms() else {
+    let Some(term) = whole.at(0) else {
         return Ok(None);
     };
-    if is_one(&term.term) {
-        return Ok(Some(fraction_list(alloc, term.coefficient, power)));
-    }
-    Ok(Some(term_power(alloc, term, power)?))
-}
-
-/// The list of a term to a power.
-fn term_power<'a>(alloc: Global, term: &Monomial, power: u128) -> Result<Whole<'a>, AllocError>
-    requires { 1 ≤ power }
-    ensures { IfOk result (λ made. (max : ℕ) → 1 ≤ max → listing made ≡ powers max (single term.now) power) }
-{
     let front = term.clone()?;
-    list_of_made(times_often(alloc, front, term, power - 1))
+    let made = list_of_made(times_often(alloc, front, term, power - 1))?;
+    Ok(Some(made))
 }
 
 /// The list of what is made: its term, or none where it is 0.
@@ -64,224 +62,218 @@ fn list_of_made<'a>(made: Result<Option<Monomial>, ExpandError>) -> Result<Whole
     }
 }
 
-/// Whether a term has no factors.
-fn is_one(term: &Term) -> bool
-    ensures { IsTrue result ↔ (term.now ≡ one) }
+/// A list of one term at most to a power.
+pub fn call_power<'a>(
+    alloc: Global,
+    limit: u64,
+    whole: Whole<'a>,
+    power: u32,
+) -> Result<Whole<'a>, AllocError>
+    requires { IsOneAtMost (listing whole) }
+    ensures { IfOk result (λ made. limited limit (listing made) ≡ powers limit (listing whole.entry) power) }
 {
-    term.powers().is_empty() && term.dots().is_empty() && is_invertible(term)
-}
-
-/// A factor of a power that terms are being taken from.
-#[derive(Drop)]
-pub struct Step {
-    /// The term of the front before it that its terms are paired with, none at the first factor.
-    pub left: Option<Monomial>,
-    pub place: usize,
-    /// How many terms the front up to it has had.
-    pub count: u64,
-}
-
-impl Step {
-    /// The product with the next term with which it isn't 0.
-    fn take(
-        &mut self,
-        alloc: Global,
-        limit: u64,
-        whole: &mut Whole,
-    ) -> Result<Option<Monomial>, ExpandError>
-        ensures next { Takes limit result (step_level (listing whole.old) self.old) (step_level (listing whole.new) self.new) }
-        ensures fewer { Lessens result (opened_list (listing whole.old) self.old) (opened_list (listing whole.new) self.new) }
-        ensures whole { OnOk result (listing whole.new ≡ listing whole.old) }
-    {
-        let Some(term) = self.next_product(alloc, whole)? else {
-            return Ok(None);
-        };
-        if self.count >= limit {
-            return Err(ExpandError::Refused(Cause::ExpandLimit));
-        }
-        self.count += 1;
-        Ok(Some(term))
+    if power == 1 {
+        return Ok(whole);
     }
-
-    fn next_product(
-        &mut self,
-        alloc: Global,
-        whole: &mut Whole,
-    ) -> Result<Option<Monomial>, ExpandError>
-        ensures next { Gives result (opened_list (listing whole.old) self.old) (opened_list (listing whole.new) self.new) }
-        ensures left { self.new.left ≡ self.old.left }
-        ensures count { self.new.count ≡ self.old.count }
-        ensures whole { OnOk result (listing whole.new ≡ listing whole.old) }
-    {
-        while let Some(term) = whole.at(self.place) {
-            let made = times(alloc, &self.left, term)?;
-            self.place += 1;
-            if let Some(made) = made {
-                return Ok(Some(made));
-            }
-        }
-        whole.ended()
+    match short_power(alloc, limit, &whole, u128::from(power))? {
+        Some(made) => Ok(made),
+        None => Ok(whole),
     }
 }
 
-/// For how many counts room is asked at once: for more than there may be, the allocator refuses it.
-fn room_for(counts: u128) -> usize {
-    if counts < usize::MAX as u128 {
-        counts as usize
-    } else {
-        usize::MAX
-    }
-}
-
-/// Puts so many counts of 0 where there is none.
-fn put_counts(counts: &mut Vec<u64>, more: u128) -> Result<(), AllocError>
-    requires { counts.old.items ≡ [] }
-    ensures { OnOk result (counts.new.items ≡ replicate more 0) }
+/// Adds the list of the piece that these begin with, to a power.
+#[cycle(taking)]
+pub fn put_power<'a>(
+    alloc: Global,
+    scope: Scope<'a>,
+    pieces: &'a [Piece],
+    whole: Whole<'a>,
+    power: u128,
+    factors: &mut Factors<'a>,
+    deeper: u64,
+) -> Result<(), AllocError>
+    requires piece { BeginsWith scope.names.now (listing whole) power pieces.now }
+    requires sign { IsSignedFirst pieces.now (factor_lists scope.limit factors.old) }
+    ensures { OnOk result (IsSameRow scope.entry.limit (factor_lists scope.entry.limit factors.old ++ powers scope.entry.limit (listing whole.entry) power ∷ [])
+        (factor_lists scope.entry.limit factors.new)) }
 {
-    counts.reserve(room_for(more))?;
-    for _made in 0..more {
-        counts.push(0)?;
+    if power == 1 {
+        return factors.put_whole(alloc, scope.limit, whole);
+    }
+    if power != 0 && whole.terms().is_empty() {
+        return factors.put_whole(alloc, scope.limit, whole);
+    }
+    if let Some(made) = short_power(alloc, scope.limit, &whole, power)? {
+        return factors.put_whole(alloc, scope.limit, made);
+    }
+    if factors.is_none() {
+        return put_copies(alloc, scope, pieces, whole, power, factors);
+    }
+    let (own, _) = pieces.split_at(1);
+    put_list(alloc, scope, own, factors, deeper)
+}
+
+/// Adds the list of the piece that these begin with so many times, as the first factors.
+fn put_copies<'a>(
+    alloc: Global,
+    scope: Scope<'a>,
+    pieces: &'a [Piece],
+    whole: Whole<'a>,
+    times: u128,
+    factors: &mut Factors<'a>,
+) -> Result<(), AllocError>
+    requires none { (max : ℕ) → factor_lists max factors.old ≡ [] }
+    requires some { 1 ≤ times }
+    requires piece { BeginsWith scope.names.now (listing whole) times pieces.now }
+    ensures { OnOk result (IsSameRow scope.entry.limit (powers scope.entry.limit (listing whole.entry) times ∷ []) (factor_lists scope.entry.limit factors.new)) }
+{
+    factors.reserve(times)?;
+    factors.put(List::Unlimited(Walk::new(whole)))?;
+    for _made in 1..times {
+        let again = first_list(alloc, pieces, scope.names)?;
+        factors.put(List::Unlimited(Walk::new(again)))?;
     }
     Ok(())
 }
 
-/// A list to a power of at least 2, whose terms are taken one by one, again and again: its factors are paired from the
-/// left, deepest first.
-#[derive(Drop)]
-pub struct Power<'a> {
-    pub whole: Whole<'a>,
-    /// How many factors there are behind the first.
-    pub later: u128,
-    /// The last factor that terms are being taken from.
-    pub top: Option<Step>,
-    /// The factors before that.
-    pub below: Vec<Step>,
-    /// How many terms the front up to each factor behind it has had, the next one last.
-    pub waiting: Vec<u64>,
+/// The list of the piece that these begin with, where it is a factor.
+fn first_list<'a>(
+    alloc: Global,
+    pieces: &[Piece],
+    names: &'a Standing,
+) -> Result<Whole<'a>, AllocError>
+    ensures { (l : Listing) (power : ℕ) → BeginsWith names.now l power pieces.now → IfOk result (λ whole. listing whole ≡ l) }
+{
+    let Some((piece, _more)) = pieces.split_first() else {
+        return Ok(Whole::nothing());
+    };
+    match piece_list(alloc, piece, names)? {
+        Some((whole, _power)) => Ok(whole),
+        None => Ok(Whole::nothing()),
+    }
 }
 
-impl<'a> Power<'a> {
-    pub fn new(alloc: Global, whole: Whole<'a>, later: u128) -> Power<'a>
-        ensures whole { result.whole ≡ whole.entry }
-        ensures later { result.later ≡ later }
-        ensures top { result.top ≡ None }
-        ensures below { result.below.items ≡ [] }
-        ensures waiting { result.waiting.items ≡ [] }
-    {
-        Power {
-            whole,
-            later,
-            top: None,
-            below: Vec::new(alloc),
-            waiting: Vec::new(alloc),
+/// Adds the list of a sum.
+#[cycle(taking)]
+pub fn put_list<'a>(
+    alloc: Global,
+    scope: Scope<'a>,
+    pieces: &'a [Piece],
+    factors: &mut Factors<'a>,
+    deeper: u64,
+) -> Result<(), AllocError>
+    ensures { OnOk result (IsSameRow scope.entry.limit (factor_lists scope.entry.limit factors.old ++ list_of_pieces scope.entry.limit scope.entry.names.now pieces.now ∷ [])
+        (factor_lists scope.entry.limit factors.new)) }
+{
+    if factors.is_at_front() {
+        return factors.put(list_once(alloc, scope, pieces)?);
+    }
+    factors.put(list_again(alloc, scope.within(), pieces, scope.room, deeper)?)
+}
+
+/// Adds the sum within parentheses, to the power to which it ends; `own` has the pieces of all.
+#[cycle(taking)]
+pub fn put_ended<'a>(
+    alloc: Global,
+    scope: Scope<'a>,
+    own: &'a [Piece],
+    within: &'a [Piece],
+    end: Ended,
+    factors: &mut Factors<'a>,
+    deeper: u64,
+) -> Result<(), AllocError>
+    requires { (factor_lists scope.limit factors.old ≡ [] → ⊥) → list_of_pieces scope.limit scope.names.now own.now ≡ powered scope.limit (powered_by scope.names.now end (list_of_pieces scope.limit scope.names.now within.now)) }
+    ensures { OnOk result (IsSameRow scope.entry.limit (factor_lists scope.entry.limit factors.old ++ powered scope.entry.limit (powered_by scope.entry.names.now end (list_of_pieces scope.entry.limit scope.entry.names.now within.now)) ∷ [])
+        (factor_lists scope.entry.limit factors.new)) }
+{
+    match end.power(alloc, scope.names)? {
+        Some(power) => put_sum(alloc, scope, own, within, power, factors, deeper),
+        None => factors.put_whole(alloc, scope.limit, Whole::refused(Cause::PowerRange)),
+    }
+}
+
+/// Adds the sum within parentheses, to a power; `own` has the pieces of all.
+#[cycle(taking)]
+fn put_sum<'a>(
+    alloc: Global,
+    scope: Scope<'a>,
+    own: &'a [Piece],
+    within: &'a [Piece],
+    power: u32,
+    factors: &mut Factors<'a>,
+    deeper: u64,
+) -> Result<(), AllocError>
+    requires { (factor_lists scope.limit factors.old ≡ [] → ⊥) → list_of_pieces scope.limit scope.names.now own.now ≡ powers scope.limit (list_of_pieces scope.limit scope.names.now within.now) power }
+    ensures { OnOk result (IsSameRow scope.entry.limit (factor_lists scope.entry.limit factors.old ++ powers scope.entry.limit (list_of_pieces scope.entry.limit scope.entry.names.now within.now) power ∷ [])
+        (factor_lists scope.entry.limit factors.new)) }
+{
+    if power == 0 {
+        return factors.put_whole(alloc, scope.limit, Whole::single(Monomial::unit(alloc)));
+    }
+    if power == 1 {
+        return put_list(alloc, scope, within, factors, deeper);
+    }
+    if !factors.is_none() {
+        return put_list(alloc, scope, own, factors, deeper);
+    }
+    let room = scope.room / power as usize;
+    match list_again(alloc, scope.within(), within, room, deeper)? {
+        List::Whole(walk) => {
+            put_whole_sum(alloc, scope, within, walk.whole, power, factors, deeper)
+        }
+        list => put_sums(alloc, scope, within, list, power, factors, deeper),
+    }
+}
+
+/// Adds a sum that is there as a whole, to a power, as the first factors.
+#[cycle(taking)]
+fn put_whole_sum<'a>(
+    alloc: Global,
+    scope: Scope<'a>,
+    within: &'a [Piece],
+    whole: Whole<'a>,
+    power: u32,
+    factors: &mut Factors<'a>,
+    deeper: u64,
+) -> Result<(), AllocError>
+    requires none { (max : ℕ) → factor_lists max factors.old ≡ [] }
+    requires some { 1 ≤ power }
+    requires list { limited scope.limit (listing whole) ≡ list_of_pieces scope.limit scope.names.now within.now }
+    ensures { OnOk result (IsSameRow scope.entry.limit (powers scope.entry.limit (list_of_pieces scope.entry.limit scope.entry.names.now within.now) power ∷ []) (factor_lists scope.entry.limit factors.new)) }
+{
+    if whole.terms().is_empty() {
+        return factors.put_whole(alloc, scope.limit, whole);
+    }
+    match short_power(alloc, scope.limit, &whole, u128::from(power))? {
+        Some(made) => factors.put_whole(alloc, scope.limit, made),
+        None => {
+            let list = List::Whole(Walk::new(whole));
+            put_sums(alloc, scope, within, list, power, factors, deeper)
         }
     }
+}
 
-    /// Begins again.
-    pub fn restart(&mut self) -> Result<(), AllocError>
-        ensures whole { OnOk result ((max : ℕ) → power_whole max self.new ≡ power_whole max self.old) }
-        ensures left { OnOk result ((max : ℕ) → power_left max self.new ≡ power_whole max self.old) }
-    {
-        self.below.clear();
-        self.waiting.clear();
-        put_counts(&mut self.waiting, self.later)?;
-        self.top = Some(Step {
-            left: None,
-            place: 0,
-            count: 0,
-        });
-        Ok(())
+/// Adds this list of a sum, and the same again, so many in all, as the first factors.
+#[cycle(taking)]
+fn put_sums<'a>(
+    alloc: Global,
+    scope: Scope<'a>,
+    within: &'a [Piece],
+    list: List<'a>,
+    times: u32,
+    factors: &mut Factors<'a>,
+    deeper: u64,
+) -> Result<(), AllocError>
+    requires none { (max : ℕ) → factor_lists max factors.old ≡ [] }
+    requires some { 1 ≤ times }
+    requires list { list_whole scope.limit list ≡ list_of_pieces scope.limit scope.names.now within.now }
+    ensures { OnOk result (IsSameRow scope.entry.limit (powers scope.entry.limit (list_of_pieces scope.entry.limit scope.entry.names.now within.now) times ∷ []) (factor_lists scope.entry.limit factors.new)) }
+{
+    let room = scope.room / times as usize;
+    factors.put(list)?;
+    for _made in 1..times {
+        let list = list_again(alloc, scope.within(), within, room, deeper)?;
+        factors.put(list)?;
     }
-
-    /// A front of a product times the next term with which it isn't 0.
-    pub fn next_times(
-        &mut self,
-        alloc: Global,
-        limit: u64,
-        left: &Option<Monomial>,
-    ) -> Result<Option<Monomial>, ExpandError>
-        ensures next { Gives result (times_by left.now (power_left limit self.old)) (times_by left.now (power_left limit self.new)) }
-        ensures whole { OnOk result (power_whole limit self.new ≡ power_whole limit self.old) }
-    {
-        'turns: loop {
-            let Some(term) = self.next(alloc, limit)? else {
-                return Ok(None);
-            };
-            if let Some(made) = times_owned(alloc, left, term)? {
-                return Ok(Some(made));
-            }
-        }
-    }
-
-    /// The next term.
-    fn next(&mut self, alloc: Global, limit: u64) -> Result<Option<Monomial>, ExpandError>
-        ensures next { Gives result (power_left limit self.old) (power_left limit self.new) }
-        ensures whole { OnOk result (power_whole limit self.new ≡ power_whole limit self.old) }
-    {
-        'turns: loop {
-            match self.step(alloc, limit)? {
-                Progress::Moves => {}
-                Progress::Gives(term) => return Ok(Some(term)),
-                Progress::Done => return Ok(None),
-            }
-        }
-    }
-
-    fn step(&mut self, alloc: Global, limit: u64) -> Result<Progress, ExpandError>
-        ensures next { Goes result (power_left limit self.old) (power_left limit self.new) }
-        ensures nearer { Nears result (power_distance self.old) (power_distance self.new) }
-        ensures whole { OnOk result (power_whole limit self.new ≡ power_whole limit self.old) }
-        ensures same { OnOk result (listing self.new.whole ≡ listing self.old.whole) }
-    {
-        let Some(top) = &mut self.top else {
-            let Some(step) = self.below.pop() else {
-                return Ok(Progress::Done);
-            };
-            self.top = Some(step);
-            return Ok(Progress::Moves);
-        };
-        let Some(term) = top.take(alloc, limit, &mut self.whole)? else {
-            self.close()?;
-            return Ok(Progress::Moves);
-        };
-        let Some(count) = self.waiting.pop() else {
-            return Ok(Progress::Gives(term));
-        };
-        self.open(count, term)?;
-        Ok(Progress::Moves)
-    }
-
-    /// Takes no more terms from the last factor.
-    fn close(&mut self) -> Result<(), AllocError>
-        ensures top { self.new.top ≡ None }
-        ensures below { self.new.below.items ≡ self.old.below.items }
-        ensures waiting { OnOk result (self.new.waiting.items
-            ≡ self.old.waiting.items ++ map (λ step. step.count) (option_to_list self.old.top)) }
-        ensures whole { self.new.whole ≡ self.old.whole }
-        ensures later { self.new.later ≡ self.old.later }
-    {
-        if let Some(top) = self.top.take() {
-            self.waiting.push(top.count)?;
-        }
-        Ok(())
-    }
-
-    /// Takes terms from the next factor, which are paired with this term.
-    fn open(&mut self, count: u64, left: Monomial) -> Result<(), AllocError>
-        ensures below { OnOk result (self.new.below.items ≡ self.old.below.items ++ option_to_list self.old.top) }
-        ensures top { OnOk result (self.new.top ≡ Some (record { left = Some left; place = 0; count = count })) }
-        ensures waiting { self.new.waiting.items ≡ self.old.waiting.items }
-        ensures whole { self.new.whole ≡ self.old.whole }
-        ensures later { self.new.later ≡ self.old.later }
-    {
-        let step = Step {
-            left: Some(left),
-            place: 0,
-            count,
-        };
-        if let Some(top) = mem::replace(&mut self.top, Some(step)) {
-            self.below.push(top)?;
-        }
-        Ok(())
-    }
+    Ok(())
 }

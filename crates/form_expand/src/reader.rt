@@ -1,20 +1,26 @@
-ghost use Rattle.std.specs.Prelude.{◌≡◌, ◌≤◌, ◌<◌, ◌+◌, ◌^◌, None, IfOk, length, map};
+//! Reading a product from the pieces of a sum.
+ghost use Rattle.std.specs.Prelude.{◌≡◌, ◌≤◌, ◌<◌, ◌+◌, ◌^◌, None, IfOk, length};
+ghost use Rattle.form_expand.specs.Bound.{powered, powered_by};
 ghost use Rattle.form_expand.specs.Closings.{closing_at, deep_behind, power_at_end};
-ghost use Rattle.form_expand.specs.Factors.{factor_whole};
+ghost use Rattle.form_expand.specs.Factors.{factor_lists};
 ghost use Rattle.form_expand.specs.Kept.{listing};
+ghost use Rattle.form_expand.specs.Listing.{limited};
 ghost use Rattle.form_expand.specs.Pieces.{list_of_piece, list_of_vectors, listed_alone};
-ghost use Rattle.form_expand.specs.Reading.{begins_product};
 ghost use Rattle.form_expand.specs.Meanings.{terms_of};
-ghost use Rattle.form_expand.specs.Readers.{IsRead, IsReadFactor, IsReadFunction, IsReadOn, IsReadParenthesis, is_minus_piece};
+ghost use Rattle.form_expand.specs.Reading.{begins_product, calling, link_of_piece};
+ghost use Rattle.form_expand.specs.Readers.{BeginsSum, IsRead, IsReadAt, IsReadFunction, IsReadOn, IsSignedFirst, is_minus_piece, list_of_calling};
 
 use crate::bound::{raised_list, wild_list};
 use crate::ended::Ended;
-use crate::factor::Factor;
+use crate::factors::Factors;
+use crate::function::function_list;
 use crate::number::{number_list, symbol_list};
+use crate::power::{call_power, put_ended, put_power};
+use crate::scope::Scope;
 use crate::single::{component_list, delta_list, dot_list, imaginary_list};
 use crate::stored::Standing;
 use crate::whole::{Kept, Whole};
-use form_base::Id;
+use form_base::{Cause, Id};
 use form_tree::{Link, Piece};
 use std::alloc::{AllocError, Global};
 
@@ -22,24 +28,23 @@ use std::alloc::{AllocError, Global};
 #[derive(Drop)]
 pub struct Summand<'a> {
     pub is_minus: bool,
-    pub factors: Vec<Factor<'a>>,
+    pub factors: Factors<'a>,
 }
 
-/// Reads the product that these pieces begin with. Answers it, and the pieces behind it. A factor in parentheses is read at
-/// once where it is a sum of at most `most` products of numbers and symbols.
+/// Reads the product that these pieces begin with. Answers it, and the pieces behind it.
+#[cycle(taking)]
 pub fn read_product<'a>(
     alloc: Global,
+    scope: Scope<'a>,
     pieces: &'a [Piece],
-    stored: &'a Standing,
-    limit: u64,
-    most: usize,
+    deeper: u64,
 ) -> Result<(Summand<'a>, &'a [Piece]), AllocError>
-    ensures read { IfOk result (λ read. IsRead limit stored.now pieces.now read.0.is_minus
-        (map (factor_whole limit) read.0.factors.items) read.1.now) }
+    ensures read { IfOk result (λ read. IsRead scope.entry.limit scope.entry.names.now pieces.now read.0.is_minus
+        (factor_lists scope.entry.limit read.0.factors) read.1.now) }
     ensures shorter { 0 < length pieces.now → IfOk result (λ read. length read.1.now < length pieces.now) }
 {
-    let mut factors = Vec::new(alloc);
-    let Some((first, more)) = pieces.split_first() else {
+    let mut factors = Factors::none(alloc);
+    let Some((first, _more)) = pieces.split_first() else {
         return Ok((
             Summand {
                 is_minus: false,
@@ -49,8 +54,8 @@ pub fn read_product<'a>(
         ));
     };
     let is_minus = is_subtracted(first);
-    let rest = read_factor(alloc, first, more, stored, limit, most, &mut factors)?;
-    let rest = read_on(alloc, rest, stored, limit, most, &mut factors)?;
+    let rest = read_factor(alloc, scope, pieces, &mut factors, deeper)?;
+    let rest = read_on(alloc, scope, rest, &mut factors, deeper)?;
     Ok((Summand { is_minus, factors }, rest))
 }
 
@@ -58,34 +63,20 @@ pub fn read_product<'a>(
 pub fn is_subtracted(piece: &Piece) -> bool
     ensures { result ≡ is_minus_piece piece.now }
 {
-    match piece {
-        Piece::Number { link, .. }
-        | Piece::Symbol { link, .. }
-        | Piece::Wild { link, .. }
-        | Piece::Raised { link, .. }
-        | Piece::Stored { link, .. }
-        | Piece::Imaginary { link, .. }
-        | Piece::Dot { link, .. }
-        | Piece::Component { link, .. }
-        | Piece::Delta { link, .. }
-        | Piece::Function { link, .. }
-        | Piece::Open { link } => *link == Link::Minus,
-        Piece::EndOfFunction { .. }
-        | Piece::EndOfRaisedFunction(_)
-        | Piece::Field(_)
-        | Piece::Index(_)
-        | Piece::Vector(_)
-        | Piece::Argument
-        | Piece::EndOfArgument
-        | Piece::Close { .. }
-        | Piece::CloseRaised(_) => false,
-    }
+    link_of(piece) == Link::Minus
 }
 
 /// Whether a product begins with this piece.
 pub fn begins(piece: &Piece) -> bool
     ensures { result ≡ begins_product piece.now }
 {
+    link_of(piece) != Link::Times
+}
+
+/// How what begins with this piece stands to what is before it; what begins nothing goes on.
+fn link_of(piece: &Piece) -> Link
+    ensures { result ≡ link_of_piece piece.now }
+{
     match piece {
         Piece::Number { link, .. }
         | Piece::Symbol { link, .. }
@@ -97,7 +88,7 @@ pub fn begins(piece: &Piece) -> bool
         | Piece::Component { link, .. }
         | Piece::Delta { link, .. }
         | Piece::Function { link, .. }
-        | Piece::Open { link } => *link != Link::Times,
+        | Piece::Open { link } => *link,
         Piece::EndOfFunction { .. }
         | Piece::EndOfRaisedFunction(_)
         | Piece::Field(_)
@@ -106,74 +97,153 @@ pub fn begins(piece: &Piece) -> bool
         | Piece::Argument
         | Piece::EndOfArgument
         | Piece::Close { .. }
-        | Piece::CloseRaised(_) => false,
+        | Piece::CloseRaised(_) => Link::Times,
     }
 }
 
 /// Reads the further factors of a product, and answers the pieces behind it.
+#[cycle(taking)]
 fn read_on<'a>(
     alloc: Global,
+    scope: Scope<'a>,
     pieces: &'a [Piece],
-    stored: &'a Standing,
-    limit: u64,
-    most: usize,
-    factors: &mut Vec<Factor<'a>>,
+    factors: &mut Factors<'a>,
+    deeper: u64,
 ) -> Result<&'a [Piece], AllocError>
-    ensures read { IfOk result (λ rest. IsReadOn limit stored.now pieces.now
-        (map (factor_whole limit) factors.old.items) (map (factor_whole limit) factors.new.items) rest.now) }
+    ensures read { IfOk result (λ rest. IsReadOn scope.entry.limit scope.entry.names.now pieces.now
+        (factor_lists scope.entry.limit factors.old) (factor_lists scope.entry.limit factors.new) rest.now) }
     ensures shorter { IfOk result (λ rest. length rest.now ≤ length pieces.now) }
 {
     let mut rest = pieces;
-    while let Some((piece, more)) = rest.split_first() {
+    while let Some((piece, _more)) = rest.split_first() {
         if begins(piece) {
             return Ok(rest);
         }
-        rest = read_factor(alloc, piece, more, stored, limit, most, factors)?;
+        rest = read_factor(alloc, scope, rest, factors, deeper)?;
     }
     Ok(rest)
 }
 
-/// Reads the factor that begins with this piece, and answers the pieces behind it. There is none where the piece ends
+/// Reads the factor that these pieces begin with, and answers the pieces behind it. There is none where the first piece ends
 /// something that isn't open, begins something that isn't ended, or is an argument.
+#[cycle(taking)]
 fn read_factor<'a>(
     alloc: Global,
-    piece: &Piece,
-    more: &'a [Piece],
-    stored: &'a Standing,
-    limit: u64,
-    most: usize,
-    factors: &mut Vec<Factor<'a>>,
+    scope: Scope<'a>,
+    pieces: &'a [Piece],
+    factors: &mut Factors<'a>,
+    deeper: u64,
 ) -> Result<&'a [Piece], AllocError>
-    ensures read { IfOk result (λ rest. IsReadFactor limit stored.now piece.now more.now
-        (map (factor_whole limit) factors.old.items) (map (factor_whole limit) factors.new.items) rest.now) }
-    ensures shorter { IfOk result (λ rest. length rest.now ≤ length more.now) }
+    requires { IsSignedFirst pieces.now (factor_lists scope.limit factors.old) }
+    ensures read { IfOk result (λ rest. IsReadAt scope.entry.limit scope.entry.names.now pieces.now
+        (factor_lists scope.entry.limit factors.old) (factor_lists scope.entry.limit factors.new) rest.now) }
+    ensures shorter { 0 < length pieces.now → IfOk result (λ rest. length rest.now < length pieces.now) }
 {
-    if let Some((whole, power)) = piece_list(alloc, piece, stored)? {
-        factors.push(Factor::new(alloc, limit, whole, power)?)?;
-        return Ok(more);
-    }
+    let Some((piece, more)) = pieces.split_first() else {
+        return Ok(pieces);
+    };
     match piece {
-        Piece::Open { .. } => read_parenthesis(alloc, more, stored, limit, most, factors),
-        Piece::Argument => read_parenthesis(alloc, more, stored, limit, most, factors),
+        Piece::Open { .. } => read_parenthesis(alloc, scope, pieces, factors, deeper),
+        Piece::Argument => read_parenthesis(alloc, scope, pieces, factors, deeper),
         Piece::Function {
             function,
             is_commuting,
             ..
         } => read_function(
             alloc,
+            scope,
             more,
-            stored,
-            limit,
-            stored.function(*function),
+            scope.names.function(*function),
             *is_commuting,
             factors,
+            deeper,
         ),
-        _ => Ok(more),
+        _ => {
+            let Some((whole, power)) = piece_list(alloc, piece, scope.names)? else {
+                return Ok(more);
+            };
+            put_power(alloc, scope, pieces, whole, power, factors, deeper)?;
+            Ok(more)
+        }
+    }
+}
+
+/// Reads the factor in parentheses that these pieces begin with, and answers the pieces behind it.
+#[cycle(taking)]
+fn read_parenthesis<'a>(
+    alloc: Global,
+    scope: Scope<'a>,
+    pieces: &'a [Piece],
+    factors: &mut Factors<'a>,
+    deeper: u64,
+) -> Result<&'a [Piece], AllocError>
+    requires begins { BeginsSum pieces.now }
+    requires sign { IsSignedFirst pieces.now (factor_lists scope.limit factors.old) }
+    ensures read { IfOk result (λ rest. IsReadAt scope.entry.limit scope.entry.names.now pieces.now
+        (factor_lists scope.entry.limit factors.old) (factor_lists scope.entry.limit factors.new) rest.now) }
+    ensures shorter { 0 < length pieces.now → IfOk result (λ rest. length rest.now < length pieces.now) }
+{
+    let (_, behind) = pieces.split_at(1);
+    let Some((len, end)) = closing(behind) else {
+        return Ok(&[]);
+    };
+    let (within, ended) = behind.split_at(len);
+    let (_, rest) = ended.split_at(1);
+    let (own, _) = pieces.split_at(pieces.len() - rest.len());
+    put_ended(alloc, scope, own, within, end, factors, deeper)?;
+    Ok(rest)
+}
+
+/// Reads the function whose arguments these pieces begin with, and answers the pieces behind it.
+#[cycle(taking)]
+fn read_function<'a>(
+    alloc: Global,
+    scope: Scope<'a>,
+    pieces: &'a [Piece],
+    function: Id,
+    is_commuting: bool,
+    factors: &mut Factors<'a>,
+    deeper: u64,
+) -> Result<&'a [Piece], AllocError>
+    ensures read { IfOk result (λ rest. IsReadFunction function is_commuting scope.entry.limit scope.entry.names.now pieces.now
+        (factor_lists scope.entry.limit factors.old) (factor_lists scope.entry.limit factors.new) rest.now) }
+    ensures shorter { IfOk result (λ rest. length rest.now ≤ length pieces.now) }
+{
+    let Some((len, end)) = closing(pieces) else {
+        return Ok(&[]);
+    };
+    let (within, behind) = pieces.split_at(len);
+    let (_, rest) = behind.split_at(1);
+    let whole = function_power(alloc, scope, within, function, is_commuting, end, deeper)?;
+    factors.put_whole(alloc, scope.limit, whole)?;
+    Ok(rest)
+}
+
+/// The list of a function whose arguments have these pieces, to the power to which it ends.
+#[cycle(taking)]
+fn function_power<'a>(
+    alloc: Global,
+    scope: Scope<'a>,
+    pieces: &'a [Piece],
+    function: Id,
+    is_commuting: bool,
+    end: Ended,
+    deeper: u64,
+) -> Result<Whole<'a>, AllocError>
+    ensures { IfOk result (λ whole. limited scope.entry.limit (listing whole)
+        ≡ powered scope.entry.limit (powered_by scope.entry.names.now end (list_of_calling scope.entry.names.now (calling scope.entry.limit function is_commuting) pieces.now))) }
+{
+    match end.power(alloc, scope.names)? {
+        Some(power) => {
+            let list = function_list(alloc, scope, pieces, function, is_commuting, deeper)?;
+            call_power(alloc, scope.limit, list, power)
+        }
+        None => Ok(Whole::refused(Cause::PowerRange)),
     }
 }
 
 /// The list of a factor that is one piece, and its power.
-fn piece_list<'a>(
+pub fn piece_list<'a>(
     alloc: Global,
     piece: &Piece,
     stored: &'a Standing,
@@ -249,52 +319,6 @@ fn stored_list<'a>(stored: &'a Standing, expression: Id) -> Whole<'a>
         kept: Kept::Stored(stored.terms_of(expression)),
         end: None,
     }
-}
-
-/// Reads a factor in parentheses behind its first piece, and answers the pieces behind it.
-fn read_parenthesis<'a>(
-    alloc: Global,
-    pieces: &'a [Piece],
-    stored: &'a Standing,
-    limit: u64,
-    most: usize,
-    factors: &mut Vec<Factor<'a>>,
-) -> Result<&'a [Piece], AllocError>
-    ensures read { IfOk result (λ rest. IsReadParenthesis limit stored.now pieces.now
-        (map (factor_whole limit) factors.old.items) (map (factor_whole limit) factors.new.items) rest.now) }
-    ensures shorter { IfOk result (λ rest. length rest.now ≤ length pieces.now) }
-{
-    let Some((len, end)) = closing(pieces) else {
-        return Ok(&[]);
-    };
-    let (within, behind) = pieces.split_at(len);
-    factors.push(Factor::ended_sum(alloc, limit, stored, within, end, most)?)?;
-    let (_, rest) = behind.split_at(1);
-    Ok(rest)
-}
-
-/// Reads a function behind its first piece, and answers the pieces behind it.
-fn read_function<'a>(
-    alloc: Global,
-    pieces: &'a [Piece],
-    stored: &'a Standing,
-    limit: u64,
-    function: Id,
-    is_commuting: bool,
-    factors: &mut Vec<Factor<'a>>,
-) -> Result<&'a [Piece], AllocError>
-    ensures read { IfOk result (λ rest. IsReadFunction function is_commuting limit stored.now pieces.now
-        (map (factor_whole limit) factors.old.items) (map (factor_whole limit) factors.new.items) rest.now) }
-    ensures shorter { IfOk result (λ rest. length rest.now ≤ length pieces.now) }
-{
-    let Some((len, end)) = closing(pieces) else {
-        return Ok(&[]);
-    };
-    let (within, behind) = pieces.split_at(len);
-    let factor = Factor::ended_function(alloc, stored, within, function, is_commuting, end)?;
-    factors.push(factor)?;
-    let (_, rest) = behind.split_at(1);
-    Ok(rest)
 }
 
 /// How many pieces there are before the one that ends what is open before them, and its power.

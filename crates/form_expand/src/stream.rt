@@ -1,17 +1,17 @@
-ghost use Rattle.std.specs.Prelude.{◌≡◌, ◌<◌, length, None, Ok, IfOk, OnOk, IfSome};
+ghost use Rattle.std.specs.Prelude.{◌≡◌, ◌<◌, length, None, Ok, IfOk, IfSome, OnOk};
 ghost use Rattle.form_tree.specs.Tree.{Sum, pieces_of_sum};
 ghost use Rattle.form_expand.specs.Expanding.{list_of_sum};
-ghost use Rattle.form_expand.specs.Listing.{nothing, limited, with_sign};
+ghost use Rattle.form_expand.specs.Listing.{nothing, with_sign};
 ghost use Rattle.form_expand.specs.Next.{Gives};
 ghost use Rattle.form_expand.specs.Products.{product_left};
 ghost use Rattle.form_expand.specs.Reading.{list_of_pieces};
-ghost use Rattle.form_expand.specs.Streams.{stream_left, stream_before};
+ghost use Rattle.form_expand.specs.Streams.{stream_left, stream_before, stream_whole};
 
 use crate::ExpandError;
 use crate::literal::{DEEPEST, read_literal};
 use crate::product::Product;
-use crate::reader::read_product;
-use crate::stored::Standing;
+use crate::reader::{Summand, read_product};
+use crate::scope::Scope;
 use form_base::Cause;
 use form_term::Monomial;
 use form_tree::Piece;
@@ -21,10 +21,8 @@ use std::alloc::{AllocError, Global};
 #[cycle(list)]
 #[derive(Drop)]
 pub struct Stream<'a> {
-    pub limit: u64,
-    pub stored: &'a Standing,
-    /// How many products of numbers and symbols a sum in parentheses may have that is read at once.
-    pub most: usize,
+    pub scope: Scope<'a>,
+    pub pieces: &'a [Piece],
     /// How many terms were given.
     pub given: u64,
     /// The product at hand, with its sign.
@@ -35,20 +33,14 @@ pub struct Stream<'a> {
 }
 
 impl<'a> Stream<'a> {
-    pub fn new(
-        alloc: Global,
-        pieces: &'a [Piece],
-        limit: u64,
-        stored: &'a Standing,
-        most: usize,
-    ) -> Stream<'a>
-        ensures tree { (s : Sum) → pieces.now ≡ pieces_of_sum s → stream_left result ≡ list_of_sum limit stored.now s }
-        ensures pieces { stream_left result ≡ limited limit (list_of_pieces limit stored.now pieces.now) }
+    pub fn new(alloc: Global, scope: Scope<'a>, pieces: &'a [Piece]) -> Stream<'a>
+        ensures tree { (s : Sum) → pieces.now ≡ pieces_of_sum s → stream_left result ≡ list_of_sum scope.entry.limit scope.entry.names.now s }
+        ensures pieces { stream_left result ≡ list_of_pieces scope.entry.limit scope.entry.names.now pieces.now }
+        ensures whole { stream_whole result ≡ list_of_pieces scope.entry.limit scope.entry.names.now pieces.now }
     {
         Stream {
-            limit,
-            stored,
-            most,
+            scope,
+            pieces,
             given: 0,
             is_minus: false,
             product: Product::none(alloc),
@@ -56,28 +48,24 @@ impl<'a> Stream<'a> {
         }
     }
 
-    /// A sum of this product alone.
-    pub fn of_product(product: Product<'a>, limit: u64, stored: &'a Standing) -> Stream<'a>
-        ensures { stream_left result ≡ limited limit (product_left limit product.entry) }
+    /// Begins again.
+    pub fn restart(&mut self, alloc: Global)
+        ensures whole { stream_whole self.new ≡ stream_whole self.old }
+        ensures left { stream_left self.new ≡ stream_whole self.old }
     {
-        Stream {
-            limit,
-            stored,
-            most: 0,
-            given: 0,
-            is_minus: false,
-            product,
-            rest: &[],
-        }
+        self.given = 0;
+        self.product = Product::none(alloc);
+        self.rest = self.pieces;
     }
 
-    /// The next term. `deeper` counts down with each parenthesis.
+    /// The next term. `deeper` counts down with each list within another.
     #[cycle(taking)]
     pub fn next(&mut self, alloc: Global, deeper: u64) -> Result<Option<Monomial>, ExpandError>
-        ensures { Gives result (stream_left self.old) (stream_left self.new) }
+        ensures next { Gives result (stream_left self.old) (stream_left self.new) }
+        ensures whole { OnOk result (stream_whole self.new ≡ stream_whole self.old) }
     {
         'turns: loop {
-            if let Some(term) = self.product.next(alloc, self.limit, deeper)? {
+            if let Some(term) = self.product.next(alloc, self.scope.limit, deeper)? {
                 return self.give(term);
             }
             if self.rest.is_empty() {
@@ -86,15 +74,18 @@ impl<'a> Stream<'a> {
             if let Some(term) = self.read_term(alloc)? {
                 return self.give(term);
             }
-            self.read(alloc)?;
+            if let Some(term) = self.read(alloc, deeper)? {
+                return self.give(term);
+            }
         }
     }
 
     /// Gives a term of the product at hand.
     fn give(&mut self, term: Monomial) -> Result<Option<Monomial>, ExpandError>
-        ensures { Gives result (stream_before term self.old) (stream_left self.new) }
+        ensures next { Gives result (stream_before term self.old) (stream_left self.new) }
+        ensures whole { stream_whole self.new ≡ stream_whole self.old }
     {
-        if self.given >= self.limit {
+        if self.given >= self.scope.limit {
             return Err(ExpandError::Refused(Cause::ExpandLimit));
         }
         self.given += 1;
@@ -103,12 +94,18 @@ impl<'a> Stream<'a> {
 
     /// Reads the next product, where the one at hand is done and the next is one term: that.
     fn read_term(&mut self, alloc: Global) -> Result<Option<Monomial>, AllocError>
-        requires done { product_left self.old.limit self.old.product ≡ nothing }
-        requires some { 0 < length self.old.rest.now }
+        requires done { product_left self.old.scope.limit self.old.product ≡ nothing }
         ensures found { IfOk result (λ found. IfSome found (λ term. stream_before term self.new ≡ stream_left self.old)) }
         ensures none { result ≡ Ok None → self.new ≡ self.old }
+        ensures whole { stream_whole self.new ≡ stream_whole self.old }
     {
-        let read = read_literal(alloc, self.rest, self.stored, self.limit, DEEPEST)?;
+        let read = read_literal(
+            alloc,
+            self.rest,
+            self.scope.names,
+            self.scope.limit,
+            DEEPEST,
+        )?;
         let Some((literal, rest)) = read else {
             return Ok(None);
         };
@@ -117,18 +114,28 @@ impl<'a> Stream<'a> {
         Ok(Some(literal.term))
     }
 
-    /// Reads the next product, where the one at hand is done.
-    fn read(&mut self, alloc: Global) -> Result<(), AllocError>
-        requires done { product_left self.old.limit self.old.product ≡ nothing }
+    /// Reads the next product, where the one at hand is done. Where it is one term that is answered, and nothing is left of it.
+    #[cycle(taking)]
+    fn read(&mut self, alloc: Global, deeper: u64) -> Result<Option<Monomial>, AllocError>
+        requires done { product_left self.old.scope.limit self.old.product ≡ nothing }
         requires some { 0 < length self.old.rest.now }
-        ensures list { OnOk result (stream_left self.new ≡ stream_left self.old) }
-        ensures shorter { OnOk result (length self.new.rest.now < length self.old.rest.now) }
+        ensures term { IfOk result (λ found. IfSome found (λ term. stream_before term self.new ≡ stream_left self.old)) }
+        ensures list { result ≡ Ok None → stream_left self.new ≡ stream_left self.old }
+        ensures shorter { result ≡ Ok None → length self.new.rest.now < length self.old.rest.now }
+        ensures whole { stream_whole self.new ≡ stream_whole self.old }
     {
-        let (summand, rest) = read_product(alloc, self.rest, self.stored, self.limit, self.most)?;
-        self.is_minus = summand.is_minus;
-        self.product = Product::new(alloc, summand.factors)?;
+        let (summand, rest) = read_product(alloc, self.scope, self.rest, deeper)?;
+        let Summand {
+            is_minus,
+            mut factors,
+        } = summand;
+        self.is_minus = is_minus;
         self.rest = rest;
-        Ok(())
+        if factors.lists.is_empty() {
+            return Ok(factors.front.take());
+        }
+        self.product = Product::new(alloc, self.scope.limit, factors)?;
+        Ok(None)
     }
 }
 

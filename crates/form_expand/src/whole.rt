@@ -1,4 +1,5 @@
-ghost use Rattle.std.specs.Prelude.{◌≡◌, ◌↔◌, ◌+◌, ◌<◌, ◌^◌, Some, None, IsTrue, OnSome, length};
+ghost use Rattle.std.specs.Prelude.{◌≡◌, ◌↔◌, ◌+◌, ◌<◌, ◌^◌, Some, None, IfOk, IsTrue, OnSome, length};
+ghost use Rattle.form_term.specs.declared.monomial.Monomial.{Monomial as Item};
 ghost use Rattle.form_expand.specs.Listing.{nothing, single, refusal};
 ghost use Rattle.form_expand.specs.Kept.{kept_terms, listing, end_of, ended_by, BeginsAt};
 ghost use Rattle.form_expand.specs.Walks.{IsAlone};
@@ -7,6 +8,7 @@ use crate::ExpandError;
 use crate::refusal::Refusal;
 use form_base::Cause;
 use form_term::Monomial;
+use std::alloc::AllocError;
 
 /// Where the terms of a list are kept.
 #[derive(Drop)]
@@ -113,6 +115,21 @@ impl Whole<'_> {
         ensures room { OnSome result (place + 1 < 2 ^ 64) }
     {
         self.kept.as_slice().get(place)
+    }
+
+    /// Its first term.
+    pub fn into_first(self) -> Result<Option<Monomial>, AllocError>
+        ensures { (m : Item) → listing self.entry ≡ single m → IfOk result (λ first. first ≡ Some m) }
+    {
+        let Whole { kept, end: _ } = self;
+        match kept {
+            Kept::One(term) => Ok(Some(term)),
+            Kept::None => Ok(None),
+            other => match other.as_slice() {
+                [term, ..] => Ok(Some(term.clone()?)),
+                [] => Ok(None),
+            },
+        }
     }
 
     /// Whether it has one term, isn't refused behind it, and may have one.

@@ -94,7 +94,7 @@ pub fn read_all<F: Read>(reader: &mut F, alloc: Global, max: u64) -> Result<Vec<
 {
     let mut text = Vec::new(alloc);
     let mut piece = [0; PIECE];
-    for _ in 0..u64::MAX {
+    'pieces: loop {
         let room = (max - text.len() as u64).min(PIECE as u64 - 1) as usize + 1;
         let Ok(count) = reader.read(&mut piece[..room]) else {
             return Err(LibraryErr::Failed);
@@ -107,5 +107,4 @@ pub fn read_all<F: Read>(reader: &mut F, alloc: Global, max: u64) -> Result<Vec<
         }
         text.extend_from_slice(&piece[..count])?;
     }
-    Err(LibraryErr::Failed)
 }

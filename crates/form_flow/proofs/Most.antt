@@ -16,7 +16,7 @@ use Rattle.form_expand.specs.Listing.{Listing, followed, followed_at, limited, n
 use Rattle.form_expand.specs.Meanings.{no_meanings}
 use Rattle.form_expand.specs.Singles.{of_product}
 use Rattle.form_expand.proofs.Listings.{followed_last, limited_length, pairs_before, pairs_nothing}
-use Rattle.form_expand.proofs.RowParts.{times_length}
+use Rattle.form_expand.proofs.Rows.{times_length}
 use Rattle.form_tree.specs.Tree as tree
 use Rattle.form_flow.specs.declared.compiled.ReadyLeaf.{ReadyLeaf}
 use Rattle.form_flow.specs.declared.compiled.ReadyLeaf.TheVariants.{Rewrite, Multiply, Sum, SumOver, Discard}

@@ -1,5 +1,5 @@
 -- Products of a term with the terms of a list, from a side.
-use Rattle.std.proofs.Common.{◌≡◌, ℕ, ◌<◌, List, [], ◌∷◌, Option, Some, None, Result, Ok, Err, sym, ap, ◌∙◌}
+use Rattle.std.proofs.Common.{◌≡◌, ℕ, ◌<◌, ◌≤◌, List, [], ◌∷◌, length, Option, Some, None, Result, Ok, Err, sym, ap, ◌∙◌, arith}
 use Rattle.form_ast.specs.declared.statement.Side.{Side}
 use Rattle.form_ast.specs.declared.statement.Side.TheVariants as sides
 use Rattle.form_base.specs.declared.cause.Cause.{Cause}
@@ -7,12 +7,12 @@ use Rattle.form_term.specs.declared.monomial.Monomial.{Monomial}
 use Rattle.form_normal.specs.Product.{product_of}
 use Rattle.form_expand.specs.declared.error.ExpandError.{ExpandError}
 use Rattle.form_expand.specs.declared.error.ExpandError.TheVariants.{Refused, Memory}
-use Rattle.form_expand.specs.Left.{row}
+use Rattle.form_expand.specs.Left.{row, row_behind}
 use Rattle.form_expand.specs.Listing.{Listing, nothing, single, refusal, before, before_by, followed, limited, pairs, times}
 use Rattle.form_expand.specs.Next.{Gives, IsMade}
 use Rattle.form_expand.specs.Walks.{all_of}
-use Rattle.form_expand.proofs.Listings.{followed_before, followed_last, followed_nothing, followed_refusal, pairs_before, pairs_nothing, pairs_refusal, times_before, times_end}
-use Rattle.form_expand.proofs.RowParts.{pair_row}
+use Rattle.form_expand.proofs.Listings.{followed_before, followed_last, followed_nothing, followed_refusal, limited_length, limited_within, pairs_before, pairs_nothing, pairs_refusal, times_before, times_end}
+use Rattle.form_expand.proofs.Rows.{times_length}
 use Rattle.form_flow.specs.Left.{Nexts}
 use Rattle.form_flow.specs.Made.{Makes}
 use Rattle.form_flow.specs.Multiplying.{multiplied_by, product_from}
@@ -92,8 +92,13 @@ failed (Refused cause) l h = ap made h
 failed Memory l h = tt
 
 -- the row of a term and a list of terms within the limit
+term_row : (max : ℕ) (m : Monomial) (l : Listing) → 0 < max → limited max l ≡ l → times m l ≡ row max (single m ∷ l ∷ [])
+unfolding row row_behind
+term_row max m l some within =
+    let short : length l.terms ≤ max = rw within at (limited_length max l) in
+    sym (limited_within max (times m l) (omega (arith, times_length m l.terms l.end, short)))
+    ∙ ap (limited max) (sym (pairs_right m l))
+    ∙ ap (λ (front : Listing). limited max (pairs front l)) (sym (limited_within max (single m) (omega (arith, some))))
+
 pub row_of_terms : (max : ℕ) (m : Monomial) (l : Listing) (ts : List Monomial) → 0 < max → limited max l ≡ l → l ≡ all_of ts → multiplied_by sides.Right (all_of ts) m ≡ row max (single m ∷ l ∷ [])
-row_of_terms max m l ts some within is =
-    pairs_right m (all_of ts)
-    ∙ pair_row max m l (all_of ts) some (sym is ∙ sym within)
-    ∙ ap (λ (x : Listing). row max (single m ∷ x ∷ [])) within
+row_of_terms max m l ts some within is = pairs_right m (all_of ts) ∙ ap (times m) (sym is) ∙ term_row max m l some within

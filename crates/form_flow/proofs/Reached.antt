@@ -10,7 +10,7 @@ use Rattle.form_expand.specs.declared.error.ExpandError.TheVariants.{Refused, Me
 use Rattle.form_expand.specs.Listing.{limited}
 use Rattle.form_expand.specs.Next.{IsMade}
 use Rattle.form_expand.specs.Singles.{argument_of, of_product}
-use Rattle.form_match.specs.Attempts.{begins_sum}
+use Rattle.form_match.specs.Parts.{begins_sum}
 use Rattle.form_match.specs.Parts.{HasFirst}
 use Rattle.form_normal.specs.Product.{product}
 use Rattle.form_term.specs.Arguments.{arguments_of, first_summands, parts_of}

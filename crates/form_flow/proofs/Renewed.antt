@@ -16,7 +16,7 @@ use Rattle.form_expand.specs.Listing.{Listing, nothing, followed}
 use Rattle.form_expand.specs.Next.{IsMade}
 use Rattle.form_expand.specs.Singles.{argument_of, of_product}
 use Rattle.form_expand.specs.Walks.{all_of}
-use Rattle.form_match.specs.Attempts.{begins_sum, index_alone}
+use Rattle.form_match.specs.Parts.{begins_sum, index_alone}
 use Rattle.form_normal.specs.Product.{product}
 use Rattle.form_term.specs.Arguments.{arguments_of, first_summands}
 use Rattle.form_term.specs.declared.index.Index.{Index}

@@ -7,7 +7,7 @@ use Rattle.std.proofs.lemmas.List.Elements.{All-cons, All-nil, recursion_from_Al
 use Rattle.form_check.specs.declared.checked.Picked.{Picked}
 use Rattle.form_expand.specs.Singles.{of_product}
 use Rattle.form_frac.specs.Fraction.{IsLowest, whole}
-use Rattle.form_match.specs.Attempts.{begins_sum}
+use Rattle.form_match.specs.Parts.{begins_sum}
 use Rattle.form_match.specs.Parts.{HasFirst}
 use Rattle.form_normal.proofs.Alone.{each_lawful as term_each_lawful, product_is_own}
 use Rattle.form_normal.proofs.Lasting.{either_false, multiply_one, number_made}

@@ -11,7 +11,7 @@ use Rattle.form_expand.specs.declared.error.ExpandError.TheVariants.{Refused, Me
 use Rattle.form_expand.specs.Listing.{Listing, followed, limited}
 use Rattle.form_expand.specs.Singles.{argument_of}
 use Rattle.form_expand.specs.Walks.{all_of}
-use Rattle.form_match.specs.Attempts.{begins_sum}
+use Rattle.form_match.specs.Parts.{begins_sum}
 use Rattle.form_normal.specs.Product.{is_fixed}
 use Rattle.form_term.specs.Arguments.{arguments_of}
 use Rattle.form_term.specs.declared.monomial.Monomial.{Monomial}

@@ -6,7 +6,7 @@ ghost use Rattle.form_collect.specs.Collector.{IsCollectionOf};
 ghost use Rattle.form_expand.specs.Next.{IsMade};
 ghost use Rattle.form_expand.specs.Walks.{all_of};
 ghost use Rattle.form_flow.specs.Made.{Collects};
-ghost use Rattle.form_match.specs.Attempts.{begins_sum as begins_sum_of, index_alone as index_alone_of};
+ghost use Rattle.form_match.specs.Parts.{begins_sum as begins_sum_of, index_alone as index_alone_of};
 ghost use Rattle.form_match.specs.Parts.{IsFirstOf};
 ghost use Rattle.form_term.specs.declared.monomial.Monomial.{Monomial as Item};
 ghost use Rattle.form_normal.specs.Factors.{AreEachLawful, IsProductive};
@@ -19,7 +19,6 @@ use form_collect::{CollectError, Collector, laws};
 use form_expand::ExpandError;
 use form_frac::Frac;
 use form_normal::made_anew;
-use form_term::laws::reading_of_arguments;
 use form_term::{Index, Monomial, Others, Piece, Power, part_len};
 use std::alloc::{AllocError, Global};
 
@@ -31,7 +30,6 @@ pub fn first_argument(pieces: &[Piece]) -> Option<(&[Piece], &[Piece])>
     if pieces.is_empty() {
         return None;
     }
-    reading_of_arguments();
     Some(pieces.split_at(part_len(pieces)))
 }
 

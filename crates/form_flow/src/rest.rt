@@ -443,8 +443,6 @@ fn effect_of_pair<'a>(paired: Paired<'a>) -> Result<Effect<'a>, ExpandError>
 {
     match paired {
         Paired::One(item) => Ok(Effect::One(item)),
-        Paired::Nothing => Ok(Effect::Nothing),
-        Paired::Refused(cause) => Err(ExpandError::Refused(cause)),
         Paired::Row(row) => Ok(Effect::Source(Source::Row(row))),
     }
 }

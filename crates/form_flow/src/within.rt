@@ -9,7 +9,7 @@ ghost use Rattle.form_flow.specs.Outcome.{acted_or_not, done, has_acted as has_a
 ghost use Rattle.form_flow.specs.Sources.{HasEffect};
 ghost use Rattle.form_flow.specs.Statements.{run};
 ghost use Rattle.form_flow.specs.Within.{Adds, AreBehind, Reaches, and_pieces_far, going_by, has_taken as has_taken_of, is_left as is_left_of, is_named as is_named_of, is_taken, most_of, takes_from};
-ghost use Rattle.form_match.specs.Attempts.{begins_sum as begins_sum_of};
+ghost use Rattle.form_match.specs.Parts.{begins_sum as begins_sum_of};
 ghost use Rattle.form_normal.specs.Product.{is_fixed as is_fixed_of, product};
 ghost use Rattle.form_term.specs.Arguments.{arguments_of, first_summands};
 ghost use Rattle.form_term.specs.Term.{Argument, AreArguments, IsArgumentOf, IsCall, IsTerm, expression, is_nil, pieces_of_argument};

@@ -14,17 +14,17 @@ use Rattle.form_frac.proofs.Within.{quotient_some, add_within}
 use Rattle.form_frac.proofs.Sums.{sizes_cons}
 
 -- a number over the denominator itself
-times_once : (n : ℤ) (k : ℕ) → 1 ≤ k → n *ℤ pos (k / k) ≡ n
+pub times_once : (n : ℤ) (k : ℕ) → 1 ≤ k → n *ℤ pos (k / k) ≡ n
 times_once n k some = ap (λ (x : ℕ). n *ℤ pos x) (div_self some) ∙ times_one n
 
 -- a fraction over a number that its denominator divides
-whole_again : (f : Fraction) (k : ℕ) → IsLowest f → f.denominator ∣ k → 1 ≤ k → reduced (brought k f) k ≡ f
+pub whole_again : (f : Fraction) (k : ℕ) → IsLowest f → f.denominator ∣ k → 1 ≤ k → reduced (brought k f) k ≡ f
 whole_again f k l divides some =
     ap (λ (x : ℕ). reduced (brought k f) x) (sym (mul-div_cancel' f.denominator divides))
     ∙ reduced_scaled f.numerator f.denominator (k / f.denominator) (quotient_some f.denominator k divides some)
     ∙ lowest_again f l
 
-abbrev with_next : Option Fraction → Fraction → Option Fraction
+abbrev pub with_next : Option Fraction → Fraction → Option Fraction
 with_next sum g = option_and_then (λ a. add a g) sum
 
 -- what has been added so far is n over k

@@ -6,6 +6,8 @@ pub mod Joined
 pub mod Paired
 pub mod Ranges
 pub mod Reduced
+pub mod Signs
 pub mod Sums
+pub mod Totals
 pub mod Values
 pub mod Within

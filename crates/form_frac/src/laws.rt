@@ -1,9 +1,11 @@
 //! Laws of the definitions, each the contract of a function that does nothing.
 ghost use Rattle.std.specs.Prelude.{◌≡◌, ◌≤◌, ◌*◌, ℕ, ℤ, pos, ◌+ℤ◌, ◌*ℤ◌, nat_abs, List, [], ◌∷◌, ◌++◌, map, Some, Ok};
 ghost use Rattle.std.specs.Int.{◌∣◌};
+ghost use Rattle.std.specs.Ordering.{int_cmp};
+ghost use Rattle.std.specs.declared.cmp.Ordering.TheVariants.{Equal};
 ghost use Rattle.std.specs.List.{AllByRecursion};
 ghost use Rattle.std.specs.List.Sorted.{IsPermutation};
-ghost use Rattle.form_frac.specs.Fraction.{Fraction, IsLowest, HasValue, gcd, lcm, reduced, make, add, multiply, negate, whole};
+ghost use Rattle.form_frac.specs.Fraction.{Fraction, IsLowest, HasValue, gcd, lcm, reduced, make, add, multiply, reciprocal, negate, compare, is_below_zero, whole};
 ghost use Rattle.form_frac.specs.Weight.{Weight, IsWeight, IsSum, of, join, times, sum_over, product, products, added_up};
 
 /// To bring a fraction to lowest terms keeps its value, and leaves no common divisor.
@@ -26,6 +28,22 @@ pub fn values()
         HasValue s (f.numerator *ℤ pos g.denominator +ℤ g.numerator *ℤ pos f.denominator) (pos (f.denominator * g.denominator)) }
     ensures product { (f g p : Fraction) → multiply f g ≡ Some p →
         HasValue p (f.numerator *ℤ g.numerator) (pos (f.denominator * g.denominator)) }
+{}
+
+/// A fraction and its negative add up to 0. A fraction times its reciprocal is 1, and both have one sign. One fraction is below
+/// another one where their difference is below 0, and only equal ones are neither below nor above one another.
+pub fn signs()
+    ensures negative { (f : Fraction) → IsLowest f → add f (negate f) ≡ Some (whole (pos 0)) }
+    ensures reciprocal { (f r : Fraction) → IsLowest f → reciprocal f ≡ Some r → multiply f r ≡ Some (whole (pos 1)) }
+    ensures kept { (f r : Fraction) → IsLowest f → reciprocal f ≡ Some r → is_below_zero r ≡ is_below_zero f }
+    ensures order { (f g d : Fraction) → IsLowest f → IsLowest g → add f (negate g) ≡ Some d → compare f g ≡ int_cmp d.numerator (pos 0) }
+    ensures equal { (f g : Fraction) → IsLowest f → IsLowest g → compare f g ≡ Equal → f ≡ g }
+{}
+
+/// What is added from left to right is the sum of all, over any number that their denominators divide.
+pub fn sums()
+    ensures { (k : ℕ) (f s : Fraction) (fs : List Fraction) → 1 ≤ k → AllByRecursion IsLowest (f ∷ fs) → AllByRecursion (λ g. g.denominator ∣ k) (f ∷ fs) →
+        added_up f fs ≡ Some s → s ≡ sum_over k (f ∷ fs) }
 {}
 
 /// Within their weight fractions add up to their sum in whatever order and however they are put together, and so do

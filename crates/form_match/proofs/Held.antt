@@ -31,8 +31,12 @@ use Rattle.form_match.specs.States.{Open, factors, arguments, calls, State, stat
 use Rattle.form_bindings.specs.Values.{Binding}
 use Rattle.form_match.proofs.Heads.{first_reached}
 use Rattle.form_match.proofs.Portions.{both_true, both_false, not_true}
-use Rattle.form_match.proofs.Powers.{exact_fits}
 use Rattle.form_match.proofs.Remaining.{exponent_there}
+
+-- what is the whole exponent is within it
+exact_fits : (is_exact : Bool) (e k : ℤ) → fits is_exact e k ≡ true → fits false e k ≡ true
+exact_fits false e k h = h
+exact_fits true e k h = grind (arith, ints)
 
 -- ---- lists
 

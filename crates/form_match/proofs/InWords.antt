@@ -1,307 +1,286 @@
--- What is tried straight on in the word of a term: one stretch after another, and in a stretch one function after another.
-use Rattle.std.proofs.Common.{◌≡◌, ℕ, suc, ◌+◌, ◌-◌, ◌<◌, ◌≤◌, Bool, true, false, ◌||◌, if◌then◌else◌, List, [], ◌∷◌, ◌++◌, length, drop, Option, Some, None, option_to_list, refl, sym, ap, subst, ◌∙◌}
-use Rattle.std.specs.Prelude.{flat_map, nat_lt}
-use Rattle.std.specs.List.{list_any}
-use Rattle.std.specs.Option.{option_or}
-use Rattle.std.proofs.lemmas.Bool.{and_parts, ltb-true}
+-- Where a word is open: what the search finds once a function of it begins, and once it ends.
+use Rattle.std.proofs.Common.{◌≡◌, ℕ, zero, suc, ◌+◌, ◌-◌, ◌^◌, ◌<◌, ◌≤◌, true, false, if◌then◌else◌, List, [], ◌∷◌, length, take, drop, get_or, Option, Some, None, option_map, option_to_list, refl, sym, ap, subst, ◌∙◌, append-nil, arith}
+use Rattle.std.specs.Prelude.{flat_map, slice_get}
+use Rattle.std.specs.Option.{unwrap_or}
+use Rattle.std.proofs.lemmas.List.{length-drop}
 use Rattle.form_term.specs.declared.piece.Piece.{Piece}
-use Rattle.form_term.specs.Term as terms
-use Rattle.form_term.specs.Term.{Call}
+use Rattle.form_term.specs.Term.{AreArguments, Call, is_nil}
 use Rattle.form_term.specs.Arguments.{arguments_of}
 use Rattle.form_tree.specs.declared.pattern.Name.{Name}
 use Rattle.form_tree.specs.declared.pattern.PatternPiece.{PatternPiece}
 use Rattle.form_tree.specs.declared.pattern.PatternPiece.TheVariants as pieces
-use Rattle.form_match.specs.declared.matching.Match.{Match}
-use Rattle.form_match.specs.declared.uses.Use.{Use}
-use Rattle.form_match.specs.declared.uses.Use.TheVariants as uses
-use Rattle.form_match.specs.Attempts.{Finds}
 use Rattle.form_bindings.specs.Learning.{Tells}
-use Rattle.form_match.specs.Learning.{learnt_of}
-use Rattle.form_match.specs.Candidates.{from_candidate, stretch_trial}
-use Rattle.form_match.specs.Matching.{Host, clashes, is_uncut}
-use Rattle.form_match.specs.States.{Open, factors, arguments, calls, State, state, asking_too, with_stretch, first_found, reach}
-use Rattle.form_match.specs.Straight.{are_in_word, call_asks, ends_arguments, ends_word, is_call, is_in_word, is_single, is_straight_word}
 use Rattle.form_bindings.specs.Values.{Binding}
-use Rattle.form_match.proofs.Attempting.{no_arguments, some_argument, taking_free}
-use Rattle.form_match.proofs.Direct.{first_of_one, first_of_option, name_fails, name_goes_on}
-use Rattle.form_match.proofs.Numbered.{candidate_first, candidate_last, candidates_all, stretch_moves}
+use Rattle.form_match.specs.declared.matching.Match.{Match}
+use Rattle.form_match.specs.declared.places.Frame.{Frame}
+use Rattle.form_match.specs.declared.places.Frame.TheVariants as frames
+use Rattle.form_match.specs.declared.places.Span.{Span}
+use Rattle.form_match.specs.declared.trail.Standing.{Standing}
+use Rattle.form_match.specs.declared.trail.Trail.{Trail}
+use Rattle.form_match.specs.Candidates.{from, only_first}
+use Rattle.form_match.specs.Leading.{next_standing, word_end}
+use Rattle.form_match.specs.Learning.{learnt_of}
+use Rattle.form_match.specs.Matching.{asked_function}
+use Rattle.form_match.specs.Places.{AreOpen, Ground, Stands, host_at, pieces_at, pieces_of}
+use Rattle.form_match.specs.Running.{GoesOn, IsCandidateOf, IsFound, IsRunning, ways_from, ways_left, ways_then}
+use Rattle.form_match.specs.States.{Open, arguments, calls, State, state, moves, reach, with_call}
+use Rattle.form_match.proofs.Ending.{further_on, some_from}
+use Rattle.form_match.proofs.Factoring.{asking_is}
+use Rattle.form_match.proofs.Onward.{IsOnWay, end_on, fewer_ways, piece_within, there, way_on, within}
+use Rattle.form_match.proofs.Running.{GoesOnAs, as_it_is, behind_piece, found_at, found_here, found_longer, found_same}
+use Rattle.form_match.proofs.Standing.{Shown, shown}
 
--- ---- the pieces of a stretch
+-- ---- a word from a place on
 
-pub word_has_some : (n : ℕ) (ps : List PatternPiece) → is_straight_word n ps ≡ true → 0 < n
-word_has_some n ps straight = ltb-true 0 n (and_parts (nat_lt 0 n) (are_in_word ps) straight).0
+got_first : {A : Type 0} (xs : List A) (c : ℕ) (x : A) → slice_get xs c ≡ Some x → drop c xs ≡ x ∷ drop (suc c) xs
+got_first [] c x is = cc
+got_first (y ∷ ys) zero x is = ap (λ (o : Option _). unwrap_or o y ∷ ys) is
+got_first (y ∷ ys) (suc c) x is = got_first ys c x is
 
-pub word_is_in_word : (n : ℕ) (ps : List PatternPiece) → is_straight_word n ps ≡ true → are_in_word ps ≡ true
-word_is_in_word n ps straight = (and_parts (nat_lt 0 n) (are_in_word ps) straight).1
+not_got : {A : Type 0} (xs : List A) (c : ℕ) → slice_get xs c ≡ None → drop c xs ≡ []
+not_got [] zero is = refl
+not_got [] (suc c) is = refl
+not_got (y ∷ ys) zero is = cc
+not_got (y ∷ ys) (suc c) is = not_got ys c is
 
-pub in_word_behind : (p : PatternPiece) (ps : List PatternPiece) → are_in_word (p ∷ ps) ≡ true → is_in_word p ≡ true → are_in_word ps ≡ true
-in_word_behind p ps all here = sym (ap (λ (b : Bool). if b then are_in_word ps else ends_word p ps) here) ∙ all
+-- what is looked up
+pub there_is : {A : Type 0} (xs : List A) (c : ℕ) (x : A) → c < length xs → x ≡ get_or xs c x → slice_get xs c ≡ Some x
+there_is [] c x within is = absurd (omega (arith, within))
+there_is (y ∷ ys) zero x within is = ap Some (sym is)
+there_is (y ∷ ys) (suc c) x within is = there_is ys c x (omega (arith, within)) is
 
-pub call_in_word : (p : PatternPiece) → is_call p ≡ true → is_in_word p ≡ true
-call_in_word (pieces.Symbol n k) call = cc
-call_in_word (pieces.Whole n m) call = cc
-call_in_word (pieces.Dot p q k) call = cc
-call_in_word (pieces.Component v i) call = cc
-call_in_word (pieces.Delta i j) call = cc
-call_in_word (pieces.Function n) call = cc
-call_in_word (pieces.Word n) call = cc
-call_in_word (pieces.Call n) call = refl
-call_in_word pieces.EndOfArguments call = cc
-call_in_word pieces.EndOfWord call = cc
-call_in_word (pieces.Fixed k) call = cc
-call_in_word (pieces.Any sort n) call = cc
-call_in_word (pieces.Field w) call = cc
-call_in_word pieces.Product call = cc
-call_in_word pieces.EndOfProduct call = cc
+pub there_is_none : {A : Type 0} (xs : List A) (c : ℕ) → length xs ≤ c → slice_get xs c ≡ None
+there_is_none [] c past = refl
+there_is_none (y ∷ ys) zero past = absurd (omega (arith, past))
+there_is_none (y ∷ ys) (suc c) past = there_is_none ys c (omega (arith, past))
 
-pub single_in_word : (p : PatternPiece) → is_single p ≡ true → is_in_word p ≡ true
-single_in_word (pieces.Symbol n k) single = cc
-single_in_word (pieces.Whole n m) single = cc
-single_in_word (pieces.Dot p q k) single = cc
-single_in_word (pieces.Component v i) single = cc
-single_in_word (pieces.Delta i j) single = cc
-single_in_word (pieces.Function n) single = cc
-single_in_word (pieces.Word n) single = cc
-single_in_word (pieces.Call n) single = cc
-single_in_word pieces.EndOfArguments single = cc
-single_in_word pieces.EndOfWord single = cc
-single_in_word (pieces.Fixed k) single = refl
-single_in_word (pieces.Any sort n) single = refl
-single_in_word (pieces.Field w) single = cc
-single_in_word pieces.Product single = cc
-single_in_word pieces.EndOfProduct single = cc
+-- a piece that nothing of a word can be
+word_other : (table : List (Option (List Piece))) (p : PatternPiece) (cs : List Call) (os : List Open) (bs : List Binding) (c : ℕ) → ((n : Name) → p ≡ pieces.Call n → ⊥) → (p ≡ pieces.EndOfWord → ⊥)
+    → from table p (calls cs ∷ os) bs c ≡ []
+word_other table (pieces.Call n) cs os bs c no_call no_end = absurd (no_call n refl)
+word_other table pieces.EndOfWord cs os bs c no_call no_end = absurd (no_end refl)
+word_other table p cs os bs c no_call no_end = nothing c
+  where
+    nothing : (k : ℕ) → only_first {A = State} k [] ≡ []
+    nothing zero = refl
+    nothing (suc k) = refl
 
-end_of_arguments : (p : PatternPiece) (left : List Piece) → ends_arguments p left ≡ true → (p ≡ pieces.EndOfArguments) × (left ≡ [])
-end_of_arguments (pieces.Symbol n k) left ends = cc
-end_of_arguments (pieces.Whole n m) left ends = cc
-end_of_arguments (pieces.Dot p q k) left ends = cc
-end_of_arguments (pieces.Component v i) left ends = cc
-end_of_arguments (pieces.Delta i j) left ends = cc
-end_of_arguments (pieces.Function n) left ends = cc
-end_of_arguments (pieces.Word n) left ends = cc
-end_of_arguments (pieces.Call n) left ends = cc
-end_of_arguments pieces.EndOfArguments [] ends = (refl, refl)
-end_of_arguments pieces.EndOfArguments (q ∷ qs) ends = cc
-end_of_arguments pieces.EndOfWord left ends = cc
-end_of_arguments (pieces.Fixed k) left ends = cc
-end_of_arguments (pieces.Any sort n) left ends = cc
-end_of_arguments (pieces.Field w) left ends = cc
-end_of_arguments pieces.Product left ends = cc
-end_of_arguments pieces.EndOfProduct left ends = cc
+module _ (table : List (Option (List Piece))) (ps : List PatternPiece) (found : Option Match) (g : Ground) (at : Standing) (host place : ℕ) (p : PatternPiece) (behind : List PatternPiece) (old : Trail)
+    (framed : at.frame ≡ frames.Calls host place) (r : IsRunning table ps found g old.takes.items old.bindings old.choices.items at) (here : drop at.piece ps ≡ p ∷ behind) where
+  abbrev word : List Call
+  word = (host_at g host).term.others.word
 
-pub end_in_word : (p : PatternPiece) (left : List Piece) → ends_arguments p left ≡ true → is_in_word p ≡ true
-end_in_word p left ends = ap is_in_word (end_of_arguments p left ends).0
+  holds : Shown g old.takes.items (length g.inners) (frames.Calls host place) r.opens
+  holds = shown g old.takes.items (length g.inners) (frames.Calls host place) r.opens (subst (λ (f : Frame). AreOpen g old.takes.items (length g.inners) false f r.opens) framed r.stands.0)
 
-pub no_name : (p : PatternPiece) (f : ℕ) → ((n : Name) → p ≡ pieces.Call n → ⊥) → call_asks p f ≡ None
-no_name (pieces.Symbol n k) f no_call = refl
-no_name (pieces.Whole n m) f no_call = refl
-no_name (pieces.Dot p q k) f no_call = refl
-no_name (pieces.Component v i) f no_call = refl
-no_name (pieces.Delta i j) f no_call = refl
-no_name (pieces.Function n) f no_call = refl
-no_name (pieces.Word n) f no_call = refl
-no_name (pieces.Call n) f no_call = absurd (no_call n refl)
-no_name pieces.EndOfArguments f no_call = refl
-no_name pieces.EndOfWord f no_call = refl
-no_name (pieces.Fixed k) f no_call = refl
-no_name (pieces.Any sort n) f no_call = refl
-no_name (pieces.Field w) f no_call = refl
-no_name pieces.Product f no_call = refl
-no_name pieces.EndOfProduct f no_call = refl
+  leads : (states : List State) → from table p (calls (drop place word) ∷ holds.rest) old.bindings at.candidate ≡ states
+      → IsFound table ps found g old.takes.items old.bindings old.choices.items (flat_map (reach table behind) states)
+  leads states is =
+      found_same table ps found g old.takes.items old.bindings old.choices.items (flat_map (reach table behind) (from table p r.opens old.bindings at.candidate)) (flat_map (reach table behind) states)
+      (ap (λ (os : List Open). flat_map (reach table behind) (from table p os old.bindings at.candidate)) holds.is ∙ ap (flat_map (reach table behind)) is)
+      (found_here table ps found g old.takes.items old.bindings old.choices.items at p behind r here)
 
--- ---- where arguments are open
+  -- ---- it ends
 
-module _ (table : List (Option (List Piece))) (ps : List PatternPiece) (left : List Piece) (cs : List Call) (os : List Open) (bs : List Binding) where
-  abbrev in_arguments : PatternPiece → Option Match
-  in_arguments p = first_found (reach table (p ∷ ps) (state (arguments (arguments_of left) ∷ calls cs ∷ os) bs))
+  pub word_ends : ((n : Name) → p ≡ pieces.Call n → ⊥) → GoesOn (word_end at host p) table ps found g old.takes.items old.bindings old.choices.items
+  word_ends no_call = by p refl
+    where
+      none : (q : PatternPiece) → p ≡ q → (q ≡ pieces.EndOfWord → ⊥) → IsFound table ps found g old.takes.items old.bindings old.choices.items []
+      none q is no_end = leads [] (word_other table p (drop place word) holds.rest old.bindings at.candidate no_call (λ e. no_end (sym is ∙ e)))
 
-  ends_here : left ≡ [] → in_arguments pieces.EndOfArguments ≡ first_found (reach table ps (state (calls (drop 1 cs) ∷ os) bs))
-  unfolding reach
-  ends_here empty =
-      ap (λ (xs : List terms.Argument). first_found (reach table (pieces.EndOfArguments ∷ ps) (state (arguments xs ∷ calls cs ∷ os) bs))) (ap arguments_of empty ∙ no_arguments)
-      ∙ first_of_one (reach table ps) (state (calls (drop 1 cs) ∷ os) bs)
+      -- the factors around it
+      outside : (os : List Open) → holds.rest ≡ os → AreOpen g old.takes.items host false (frames.Factors host) os → p ≡ pieces.EndOfWord
+          → IsRunning table ps found g old.takes.items old.bindings old.choices.items (next_standing at 1 (frames.Factors host))
+      outside [] same open_there is = absurd open_there
+      outside (o ∷ os) same open_there is =
+          let first : at.candidate ≡ 0 = subst (λ (l : List PatternPiece). IsCandidateOf l r.opens at.candidate) (here ∙ ap (λ (q : PatternPiece). q ∷ behind) is) r.candidate in
+          let leads_there : from table p (calls (drop place word) ∷ holds.rest) old.bindings at.candidate ≡ state (o ∷ os) old.bindings ∷ [] =
+          ap (λ (q : PatternPiece). from table q (calls (drop place word) ∷ holds.rest) old.bindings at.candidate) is
+          ∙ ap (from table pieces.EndOfWord (calls (drop place word) ∷ holds.rest) old.bindings) first
+          ∙ ap (λ (l : List Open). moves table pieces.EndOfWord (calls (drop place word) ∷ l) old.bindings) same
+          ∙ ap (λ (x : Open). moves table pieces.EndOfWord (calls (drop place word) ∷ x ∷ os) old.bindings) open_there.0
+          ∙ ap (λ (x : Open). state (x ∷ os) old.bindings ∷ []) (sym open_there.0) in
+          found_at table ps found g old.takes.items old.bindings old.choices.items (at.piece + 1) (frames.Factors host) (o ∷ os) ((open_there.0, open_there.1, holds.host, open_there.3), r.stands.1)
+          (found_same table ps found g old.takes.items old.bindings old.choices.items (flat_map (reach table behind) (state (o ∷ os) old.bindings ∷ [])) (reach table (drop (at.piece + 1) ps) (state (o ∷ os) old.bindings))
+          (append-nil (reach table behind (state (o ∷ os) old.bindings)) ∙ ap (λ (l : List PatternPiece). reach table l (state (o ∷ os) old.bindings)) (sym (behind_piece at.piece ps behind p here)))
+          (leads (state (o ∷ os) old.bindings ∷ []) leads_there))
 
-  -- all of them are taken, and the word goes on
-  pub arguments_end : (p : PatternPiece) → ends_arguments p left ≡ true → in_arguments p ≡ first_found (reach table ps (state (calls (drop 1 cs) ∷ os) bs))
-  arguments_end p ends = let end = end_of_arguments p left ends in ap in_arguments end.0 ∙ ends_here end.1
+      by : (q : PatternPiece) → p ≡ q → GoesOn (word_end at host q) table ps found g old.takes.items old.bindings old.choices.items
+      by pieces.EndOfWord is = outside holds.rest refl holds.around is
+      by (pieces.Call n) is = absurd (no_call n is)
+      by (pieces.Symbol n k) is = none (pieces.Symbol n k) is (λ e. cc)
+      by (pieces.Whole n m) is = none (pieces.Whole n m) is (λ e. cc)
+      by (pieces.Dot q s k) is = none (pieces.Dot q s k) is (λ e. cc)
+      by (pieces.Component v i) is = none (pieces.Component v i) is (λ e. cc)
+      by (pieces.Delta i j) is = none (pieces.Delta i j) is (λ e. cc)
+      by (pieces.Function n) is = none (pieces.Function n) is (λ e. cc)
+      by (pieces.Word n) is = none (pieces.Word n) is (λ e. cc)
+      by pieces.EndOfArguments is = none pieces.EndOfArguments is (λ e. cc)
+      by (pieces.Fixed k) is = none (pieces.Fixed k) is (λ e. cc)
+      by (pieces.Any sort n) is = none (pieces.Any sort n) is (λ e. cc)
+      by (pieces.Field w) is = none (pieces.Field w) is (λ e. cc)
+      by pieces.Product is = none pieces.Product is (λ e. cc)
+      by pieces.EndOfProduct is = none pieces.EndOfProduct is (λ e. cc)
 
--- some are left at their end
-arguments_left : (table : List (Option (List Piece))) (ps : List PatternPiece) (left : List Piece) (cs : List Call) (os : List Open) (bs : List Binding) → ends_arguments pieces.EndOfArguments left ≡ false
-    → first_found (reach table (pieces.EndOfArguments ∷ ps) (state (arguments (arguments_of left) ∷ calls cs ∷ os) bs)) ≡ None
-unfolding reach
-arguments_left table ps [] cs os bs ends = cc
-arguments_left table ps (q ∷ qs) cs os bs ends =
-    let first = some_argument q qs in
-    ap (λ (xs : List terms.Argument). first_found (reach table (pieces.EndOfArguments ∷ ps) (state (arguments xs ∷ calls cs ∷ os) bs))) first.2
+  -- ---- a function of it begins
 
--- a piece that is neither an argument nor the end of them
-pub misplaced : (table : List (Option (List Piece))) (p : PatternPiece) (ps : List PatternPiece) (left : List Piece) (cs : List Call) (os : List Open) (bs : List Binding)
-    → are_in_word (p ∷ ps) ≡ true → ends_arguments p left ≡ false → is_single p ≡ false
-    → first_found (reach table (p ∷ ps) (state (arguments (arguments_of left) ∷ calls cs ∷ os) bs)) ≡ None
-unfolding reach
-misplaced table (pieces.Symbol n k) ps left cs os bs all ends single = cc
-misplaced table (pieces.Whole n m) ps left cs os bs all ends single = cc
-misplaced table (pieces.Dot p q k) ps left cs os bs all ends single = cc
-misplaced table (pieces.Component v i) ps left cs os bs all ends single = cc
-misplaced table (pieces.Delta i j) ps left cs os bs all ends single = cc
-misplaced table (pieces.Function n) ps left cs os bs all ends single = cc
-misplaced table (pieces.Word n) ps left cs os bs all ends single = cc
-misplaced table (pieces.Call n) ps left cs os bs all ends single = refl
-misplaced table pieces.EndOfArguments ps left cs os bs all ends single = arguments_left table ps left cs os bs ends
-misplaced table pieces.EndOfWord ps left cs os bs all ends single = refl
-misplaced table (pieces.Fixed k) ps left cs os bs all ends single = cc
-misplaced table (pieces.Any sort n) ps left cs os bs all ends single = cc
-misplaced table (pieces.Field w) ps left cs os bs all ends single = cc
-misplaced table pieces.Product ps left cs os bs all ends single = cc
-misplaced table pieces.EndOfProduct ps left cs os bs all ends single = cc
+  module _ (n : Name) (is_call : p ≡ pieces.Call n) where
+    first_call : (cs : List Call) → drop place word ≡ cs → from table p (calls (drop place word) ∷ holds.rest) old.bindings at.candidate ≡ option_to_list (with_call n cs holds.rest old.bindings)
+    first_call cs is =
+        let first : at.candidate ≡ 0 = subst (λ (l : List PatternPiece). IsCandidateOf l r.opens at.candidate) (here ∙ ap (λ (q : PatternPiece). q ∷ behind) is_call) r.candidate in
+        ap (λ (q : PatternPiece). from table q (calls (drop place word) ∷ holds.rest) old.bindings at.candidate) is_call
+        ∙ ap (from table (pieces.Call n) (calls (drop place word) ∷ holds.rest) old.bindings) first
+        ∙ ap (λ (l : List Call). option_to_list (with_call n l holds.rest old.bindings)) is
 
--- ---- where the word is open
+    pub no_function_on : slice_get word place ≡ None → IsFound table ps found g old.takes.items old.bindings old.choices.items []
+    no_function_on none = leads [] (first_call [] (not_got word place none))
 
--- a stretch ends, or a piece stands where a function's name should
-ends_or_fails : (table : List (Option (List Piece))) (p : PatternPiece) (ps : List PatternPiece) (cs : List Call) (h : Host) (us : List Use) (bs : List Binding)
-    → are_in_word (p ∷ ps) ≡ true → is_call p ≡ false → Finds (ends_word p ps) (first_found (reach table (p ∷ ps) (state (calls cs ∷ factors h us ∷ []) bs))) us bs
-unfolding reach
-ends_or_fails table (pieces.Symbol n k) ps cs h us bs all other = cc
-ends_or_fails table (pieces.Whole n m) ps cs h us bs all other = cc
-ends_or_fails table (pieces.Dot p q k) ps cs h us bs all other = cc
-ends_or_fails table (pieces.Component v i) ps cs h us bs all other = cc
-ends_or_fails table (pieces.Delta i j) ps cs h us bs all other = cc
-ends_or_fails table (pieces.Function n) ps cs h us bs all other = cc
-ends_or_fails table (pieces.Word n) ps cs h us bs all other = cc
-ends_or_fails table (pieces.Call n) ps cs h us bs all other = cc
-ends_or_fails table pieces.EndOfArguments ps cs h us bs all other = refl
-ends_or_fails table pieces.EndOfWord [] cs h us bs all other = refl
-ends_or_fails table pieces.EndOfWord (q ∷ qs) cs h us bs all other = cc
-ends_or_fails table (pieces.Fixed k) ps cs h us bs all other = refl
-ends_or_fails table (pieces.Any sort n) ps cs h us bs all other = refl
-ends_or_fails table (pieces.Field w) ps cs h us bs all other = cc
-ends_or_fails table pieces.Product ps cs h us bs all other = cc
-ends_or_fails table pieces.EndOfProduct ps cs h us bs all other = cc
+    module _ (call : Call) (got : slice_get word place ≡ Some call) (new : Trail) (takes : new.takes ≡ old.takes) (choices : new.choices ≡ old.choices) (kept : take (length old.bindings) new.bindings ≡ old.bindings) where
+      abbrev inside : List Open
+      inside = arguments (arguments_of call.pieces) ∷ r.opens
 
-pub word_ends : (table : List (Option (List Piece))) (p : PatternPiece) (ps : List PatternPiece) (cs : List Call) (h : Host) (us : List Use) (bs : List Binding) (b : Bool)
-    → are_in_word (p ∷ ps) ≡ true → is_call p ≡ false → b ≡ ends_word p ps → Finds b (first_found (reach table (p ∷ ps) (state (calls cs ∷ factors h us ∷ []) bs))) us bs
-word_ends table p ps cs h us bs b all other test =
-    subst (λ (c : Bool). Finds c (first_found (reach table (p ∷ ps) (state (calls cs ∷ factors h us ∷ []) bs))) us bs) (sym test) (ends_or_fails table p ps cs h us bs all other)
+      learnt_call : from table p (calls (drop place word) ∷ holds.rest) old.bindings at.candidate ≡ option_to_list (option_map (state inside) (learnt_of old.bindings (asked_function n call.function)))
+      learnt_call =
+          let first = got_first word place call got in
+          first_call (call ∷ drop (suc place) word) first
+          ∙ ap (λ (o : Option State). option_to_list o) (asking_is (arguments (arguments_of call.pieces) ∷ calls (call ∷ drop (suc place) word) ∷ holds.rest) old.bindings (asked_function n call.function))
+          ∙ ap (λ (l : List Open). option_to_list (option_map (state (arguments (arguments_of call.pieces) ∷ l)) (learnt_of old.bindings (asked_function n call.function))))
+          (ap (λ (cs : List Call). calls cs ∷ holds.rest) (sym first) ∙ sym holds.is)
 
--- no function is left for a name
-no_call_there : (table : List (Option (List Piece))) (p : PatternPiece) (ps : List PatternPiece) (os : List Open) (old : List Binding) → is_call p ≡ true
-    → first_found (reach table (p ∷ ps) (state (calls [] ∷ os) old)) ≡ None
-unfolding reach
-no_call_there table (pieces.Symbol n k) ps os old call = cc
-no_call_there table (pieces.Whole n m) ps os old call = cc
-no_call_there table (pieces.Dot p q k) ps os old call = cc
-no_call_there table (pieces.Component v i) ps os old call = cc
-no_call_there table (pieces.Delta i j) ps os old call = cc
-no_call_there table (pieces.Function n) ps os old call = cc
-no_call_there table (pieces.Word n) ps os old call = cc
-no_call_there table (pieces.Call n) ps os old call = refl
-no_call_there table pieces.EndOfArguments ps os old call = cc
-no_call_there table pieces.EndOfWord ps os old call = cc
-no_call_there table (pieces.Fixed k) ps os old call = cc
-no_call_there table (pieces.Any sort n) ps os old call = cc
-no_call_there table (pieces.Field w) ps os old call = cc
-no_call_there table pieces.Product ps os old call = cc
-no_call_there table pieces.EndOfProduct ps os old call = cc
+      longer : (states : List State) → IsFound table ps found g old.takes.items old.bindings old.choices.items states → IsFound table ps found g new.takes.items new.bindings new.choices.items states
+      longer states f =
+          subst (λ (cs : _). IsFound table ps found g new.takes.items new.bindings cs.items states) (sym choices)
+          (found_longer table ps found g g old.takes.items new.takes.items old.bindings new.bindings old.choices.items states refl (as_it_is g.inners)
+          (subst (λ (us : _). GoesOnAs old.takes.items us.items) (sym takes) (as_it_is old.takes.items)) kept f)
 
--- what a name leads to, by what it asks
-call_leads : (table : List (Option (List Piece))) (p : PatternPiece) (ps : List PatternPiece) (os : List Open) (old : List Binding) (c : Call) (cs : List Call) → is_call p ≡ true
-    → first_found (reach table (p ∷ ps) (state (calls (c ∷ cs) ∷ os) old))
-    ≡ first_found (flat_map (reach table ps) (option_to_list (asking_too (arguments (arguments_of c.pieces) ∷ calls (c ∷ cs) ∷ os) old (call_asks p c.function))))
-unfolding reach
-call_leads table (pieces.Symbol n k) ps os old c cs call = cc
-call_leads table (pieces.Whole n m) ps os old c cs call = cc
-call_leads table (pieces.Dot p q k) ps os old c cs call = cc
-call_leads table (pieces.Component v i) ps os old c cs call = cc
-call_leads table (pieces.Delta i j) ps os old c cs call = cc
-call_leads table (pieces.Function n) ps os old c cs call = cc
-call_leads table (pieces.Word n) ps os old c cs call = cc
-call_leads table (pieces.Call n) ps os old c cs call = refl
-call_leads table pieces.EndOfArguments ps os old c cs call = cc
-call_leads table pieces.EndOfWord ps os old c cs call = cc
-call_leads table (pieces.Fixed k) ps os old c cs call = cc
-call_leads table (pieces.Any sort n) ps os old c cs call = cc
-call_leads table (pieces.Field w) ps os old c cs call = cc
-call_leads table pieces.Product ps os old c cs call = cc
-call_leads table pieces.EndOfProduct ps os old c cs call = cc
+      pub other_name_on : Tells false (learnt_of old.bindings (asked_function n call.function)) new.bindings → IsFound table ps found g new.takes.items new.bindings new.choices.items []
+      other_name_on told = longer [] (leads [] (learnt_call ∙ ap (λ (o : Option (List Binding)). option_to_list (option_map (state inside) o)) told))
 
-module _ (table : List (Option (List Piece))) (p : PatternPiece) (ps : List PatternPiece) (os : List Open) (old : List Binding) (call : is_call p ≡ true) where
-  abbrev in_word : List Call → Option Match
-  in_word cs = first_found (reach table (p ∷ ps) (state (calls cs ∷ os) old))
+      abbrev span : Span
+      span = record { host = host; in_word = true; place = place; from = 0 }
 
-  pub no_function_there : (cs : List Call) → cs ≡ [] → in_word cs ≡ None
-  no_function_there cs empty = ap in_word empty ∙ no_call_there table p ps os old call
+      pub call_on : Tells true (learnt_of old.bindings (asked_function n call.function)) new.bindings → AreArguments call.pieces → place + 1 < 2 ^ 64
+          → IsRunning table ps found g new.takes.items new.bindings new.choices.items (next_standing at 1 (frames.Arguments span))
+      call_on told lawful small =
+          let given : pieces_at g span ≡ call.pieces = ap (λ (o : Option Call). drop 0 (pieces_of o)) got in
+          let stands : Stands g old.takes.items (frames.Arguments span) inside = (
+            (
+              ap (λ (qs : List Piece). arguments (arguments_of qs)) (sym given),
+              (subst AreArguments (sym given) lawful, small),
+              holds.host,
+              subst (AreOpen g old.takes.items host false (frames.Calls host place)) (sym holds.is) (refl, tt, at_most host, holds.around),
+            ),
+            r.stands.1,
+          ) in
+          found_at table ps found g new.takes.items new.bindings new.choices.items (at.piece + 1) (frames.Arguments span) inside
+          (subst (λ (us : _). Stands g us.items (frames.Arguments span) inside) (sym takes) stands)
+          (found_same table ps found g new.takes.items new.bindings new.choices.items (flat_map (reach table behind) (state inside new.bindings ∷ [])) (reach table (drop (at.piece + 1) ps) (state inside new.bindings))
+          (append-nil (reach table behind (state inside new.bindings)) ∙ ap (λ (l : List PatternPiece). reach table l (state inside new.bindings)) (sym (behind_piece at.piece ps behind p here)))
+          (longer (flat_map (reach table behind) (state inside new.bindings ∷ [])) (leads (state inside new.bindings ∷ []) (learnt_call ∙ ap (λ (o : Option (List Binding)). option_to_list (option_map (state inside) o)) told))))
+        where
+          at_most : (k : ℕ) → k ≤ k
+          at_most k = omega arith
 
-  module _ (all : List Call) (c : Call) (cs : List Call) (is : all ≡ c ∷ cs) where
-    abbrev its_arguments : List Open
-    its_arguments = arguments (arguments_of c.pieces) ∷ calls (c ∷ cs) ∷ os
+      -- it has no arguments, and none are asked for
+      pub call_over : (later : List PatternPiece) → Tells true (learnt_of old.bindings (asked_function n call.function)) new.bindings → AreArguments call.pieces → place + 1 < 2 ^ 64 → call.pieces ≡ []
+          → behind ≡ pieces.EndOfArguments ∷ later → IsRunning table ps found g new.takes.items new.bindings new.choices.items (next_standing at 2 (frames.Calls host (place + 1)))
+      call_over later told lawful small empty is =
+          let given : pieces_at g span ≡ [] = ap (λ (o : Option Call). drop 0 (pieces_of o)) got ∙ empty in
+          let far : at.piece + 1 + 1 ≡ at.piece + 2 = omega arith in
+          subst (λ (k : ℕ). IsRunning table ps found g new.takes.items new.bindings new.choices.items (record { piece = k; candidate = 0; frame = frames.Calls host (place + 1) })) far
+          (subst (λ (qs : List Piece). GoesOn (if is_nil qs then Some (next_standing (next_standing at 1 (frames.Arguments span)) 1 (frames.Calls host (place + 1))) else None) table ps found g new.takes.items new.bindings new.choices.items) given
+          (end_on table ps found g (next_standing at 1 (frames.Arguments span)) span later new refl (call_on told lawful small) (behind_piece at.piece ps behind p here ∙ is)))
 
-    pub function_fails : (new : List Binding) → Tells false (learnt_of old (call_asks p c.function)) new → in_word all ≡ None
-    function_fails new told = ap in_word is ∙ call_leads table p ps os old c cs call ∙ name_fails (reach table ps) its_arguments old (call_asks p c.function) new told
+-- ---- on the way through a word
 
-    pub function_goes_on : (new : List Binding) → Tells true (learnt_of old (call_asks p c.function)) new
-        → in_word all ≡ first_found (reach table ps (state (arguments (arguments_of c.pieces) ∷ calls (c ∷ cs) ∷ os) new))
-    function_goes_on new told = ap in_word is ∙ call_leads table p ps os old c cs call ∙ name_goes_on (reach table ps) its_arguments old (call_asks p c.function) new told
+module _ {g : Ground} {at : Standing} {here : List PatternPiece} {old : Trail} {now : Standing} {host place : ℕ} {asked : List PatternPiece} {mid : Trail}
+    (framed : now.frame ≡ frames.Calls host place) (way : (table : List (Option (List Piece))) → IsOnWay table g at here old now asked mid) where
+  abbrev count : ℕ
+  count = at.piece + length here
 
--- ---- one stretch after another
+  some_way : IsOnWay [] g at here old now asked mid
+  some_way = way []
 
-never_clashes : (v : Use) (place n : ℕ) → clashes v (uses.Stretch place n) ≡ false
-never_clashes (uses.Symbol s k) place n = refl
-never_clashes (uses.Dot m k) place n = refl
-never_clashes (uses.Component m) place n = refl
-never_clashes (uses.Delta m) place n = refl
-never_clashes (uses.Function m) place n = refl
-never_clashes (uses.Stretch m k) place n = refl
+  pub before_end : (p : PatternPiece) (behind : List PatternPiece) → asked ≡ p ∷ behind → now.piece < at.piece + length here
+  before_end p behind is = within some_way p behind is
 
-nothing_clashes : (us : List Use) (place n : ℕ) → list_any (λ v. clashes v (uses.Stretch place n)) us ≡ false
-nothing_clashes [] place n = refl
-nothing_clashes (v ∷ us) place n = ap (λ (b : Bool). b || list_any (λ w. clashes w (uses.Stretch place n)) us) (never_clashes v place n) ∙ nothing_clashes us place n
+  pub before_last : (p q : PatternPiece) (later : List PatternPiece) → asked ≡ p ∷ q ∷ later → now.piece + 1 < at.piece + length here
+  before_last p q later is =
+      let k = now.piece - at.piece in
+      let behind : drop (k + 1) here ≡ q ∷ later = behind_piece k here (q ∷ later) p (sym some_way.asked_is ∙ is) in
+      let inside = piece_within (k + 1) here later q behind in
+      omega (arith, inside, some_way.further)
 
-module _ (table : List (Option (List Piece))) (n : ℕ) (ps : List PatternPiece) (h : Host) (us : List Use) (bs : List Binding) where
-  -- how many places there are
-  abbrev room : ℕ
-  room = suc (length h.term.others.word) - n
+  -- nothing is found by this way
+  pub fails_less : (p : PatternPiece) (behind : List PatternPiece) → asked ≡ p ∷ behind
+      → ways_left (at.piece + length here) mid.choices.items < ways_then (at.piece + length here) (Some at) old.choices.items
+  fails_less p behind is = fewer_ways some_way None mid.choices.items (omega (arith, some_from (at.piece + length here) now))
 
-  -- what the stretches from a place on lead to, and what one does
-  abbrev pub stretches_from : ℕ → Option Match
-  stretches_from place = first_found (flat_map (reach table ps) (from_candidate (stretch_trial n h us [] bs) room place))
+  -- it goes on at the next piece
+  pub further_less : (p : PatternPiece) (behind : List PatternPiece) (next : Standing) → asked ≡ p ∷ behind → now.piece < next.piece
+      → ways_from (at.piece + length here) next + ways_left (at.piece + length here) mid.choices.items < ways_then (at.piece + length here) (Some at) old.choices.items
+  further_less p behind next is further =
+      fewer_ways some_way (Some next) mid.choices.items (let less = further_on (at.piece + length here) now next further (before_end p behind is) in omega (arith, less))
 
-  abbrev pub stretch_at : ℕ → Option Match
-  stretch_at place = first_found (flat_map (reach table ps) (option_to_list (stretch_trial n h us [] bs place)))
+  -- all pieces are gone through
+  pub ended_less : 0 < length here → length asked ≡ 0
+      → ways_from (at.piece + length here) now + ways_left (at.piece + length here) mid.choices.items < ways_then (at.piece + length here) (Some at) old.choices.items
+  ended_less some none =
+      let long : length asked ≡ length here - (now.piece - at.piece) = ap length some_way.asked_is ∙ length-drop (now.piece - at.piece) here in
+      omega (arith, long, none, some, some_way.less, some_way.further)
 
-  pub all_stretches : first_found (reach table (pieces.Word n ∷ ps) (state (factors h us ∷ []) bs)) ≡ stretches_from 0
-  unfolding reach
-  all_stretches = ap (λ (ss : List State). first_found (flat_map (reach table ps) ss)) (stretch_moves table h us [] bs n ∙ sym (candidates_all (stretch_trial n h us [] bs) room))
+  module _ (p : PatternPiece) (behind : List PatternPiece) (is : asked ≡ p ∷ behind) where
+    pub ends_on : ((n : Name) → p ≡ pieces.Call n → ⊥) → (next : Option Standing) → next ≡ word_end now host p → (table : List (Option (List Piece))) (ps : List PatternPiece) (found : Option Match)
+        → drop at.piece ps ≡ here → IsRunning table ps found g old.takes.items old.bindings old.choices.items at → GoesOn next table ps found g mid.takes.items mid.bindings mid.choices.items
+    ends_on no_call next made table ps found first r =
+        subst (λ (n : Option Standing). GoesOn n table ps found g mid.takes.items mid.bindings mid.choices.items) (sym made)
+        (word_ends table ps found g now host place p behind mid framed ((way table).goes_on ps found first r) (there (way table) ps first ∙ is) no_call)
 
-  next_stretch : (place : ℕ) → place < room → stretches_from place ≡ option_or (stretch_at place) (stretches_from (place + 1))
-  next_stretch place within =
-      ap (λ (ss : List State). first_found (flat_map (reach table ps) ss)) (candidate_first (stretch_trial n h us [] bs) room place within)
-      ∙ first_of_option (reach table ps) (stretch_trial n h us [] bs place) (from_candidate (stretch_trial n h us [] bs) room (place + 1))
+    pub ends_less : (next : Option Standing) → next ≡ word_end now host p → ways_then (at.piece + length here) next mid.choices.items < ways_then (at.piece + length here) (Some at) old.choices.items
+    ends_less next made =
+        subst (λ (n : Option Standing). ways_then (at.piece + length here) n mid.choices.items < ways_then (at.piece + length here) (Some at) old.choices.items) (sym made) (by p)
+      where
+        by : (q : PatternPiece) → ways_then (at.piece + length here) (word_end now host q) mid.choices.items < ways_then (at.piece + length here) (Some at) old.choices.items
+        by pieces.EndOfWord = further_less p behind (next_standing now 1 (frames.Factors host)) is (omega arith)
+        by q = fails_less p behind is
 
-  pub stretch_here : (place : ℕ) (m : Match) → place < room → stretch_at place ≡ Some m → stretches_from place ≡ Some m
-  stretch_here place m within found = next_stretch place within ∙ ap (λ (o : Option Match). option_or o (stretches_from (place + 1))) found
+    module _ (n : Name) (is_call : p ≡ pieces.Call n) where
+      pub gone_on : slice_get (host_at g host).term.others.word place ≡ None → (table : List (Option (List Piece))) (ps : List PatternPiece) (found : Option Match)
+          → drop at.piece ps ≡ here → IsRunning table ps found g old.takes.items old.bindings old.choices.items at → IsFound table ps found g mid.takes.items mid.bindings mid.choices.items []
+      gone_on none table ps found first r =
+          no_function_on table ps found g now host place p behind mid framed ((way table).goes_on ps found first r) (there (way table) ps first ∙ is) n is_call none
 
-  pub no_stretch_here : (place : ℕ) → place < room → stretch_at place ≡ None → stretches_from place ≡ stretches_from (place + 1)
-  no_stretch_here place within none = next_stretch place within ∙ ap (λ (o : Option Match). option_or o (stretches_from (place + 1))) none
+      module _ (call : Call) (got : slice_get (host_at g host).term.others.word place ≡ Some call) (made : List Binding) (kept : take (length mid.bindings) made ≡ mid.bindings) where
+        abbrev pub bound : Trail
+        bound = record { takes = mid.takes; bindings = made; choices = mid.choices }
 
-  pub no_stretch_left : (place : ℕ) → room ≤ place → stretches_from place ≡ None
-  no_stretch_left place past = ap (λ (ss : List State). first_found (flat_map (reach table ps) ss)) (candidate_last (stretch_trial n h us [] bs) room place past)
+        pub unlike_on : Tells false (learnt_of mid.bindings (asked_function n call.function)) made → (table : List (Option (List Piece))) (ps : List PatternPiece) (found : Option Match)
+            → drop at.piece ps ≡ here → IsRunning table ps found g old.takes.items old.bindings old.choices.items at → IsFound table ps found g mid.takes.items made mid.choices.items []
+        unlike_on told table ps found first r =
+            other_name_on table ps found g now host place p behind mid framed ((way table).goes_on ps found first r) (there (way table) ps first ∙ is) n is_call call got bound refl refl kept told
 
-  -- a stretch that crosses a cut
-  pub stretch_is_cut : (place : ℕ) → is_uncut h.cuts n place ≡ false → stretch_at place ≡ None
-  stretch_is_cut place cut = ap (λ (b : Bool). first_found (flat_map (reach table ps) (option_to_list (if b then with_stretch n h us [] bs place else None)))) cut
+        module _ (told : Tells true (learnt_of mid.bindings (asked_function n call.function)) made) (lawful : AreArguments call.pieces) (small : place + 1 < 2 ^ 64) where
+          pub inside_on : (next : Standing) (others : Span) → next ≡ next_standing now 1 (frames.Arguments others) → others ≡ record { host = host; in_word = true; place = place; from = 0 }
+              → (table : List (Option (List Piece))) (ps : List PatternPiece) (found : Option Match)
+              → drop at.piece ps ≡ here → IsRunning table ps found g old.takes.items old.bindings old.choices.items at → IsRunning table ps found g mid.takes.items made mid.choices.items next
+          inside_on next others is_next is_others table ps found first r =
+              subst (IsRunning table ps found g mid.takes.items made mid.choices.items) (sym is_next)
+              (subst (λ (x : Span). IsRunning table ps found g mid.takes.items made mid.choices.items (next_standing now 1 (frames.Arguments x))) (sym is_others)
+              (call_on table ps found g now host place p behind mid framed ((way table).goes_on ps found first r) (there (way table) ps first ∙ is) n is_call call got bound refl refl kept told lawful small))
 
-  -- one that crosses none leads to what its functions lead to
-  pub stretch_begins : (place : ℕ) (cs : List Call) → is_uncut h.cuts n place ≡ true → cs ≡ drop place h.term.others.word
-      → stretch_at place ≡ first_found (reach table ps (state (calls cs ∷ factors h (us ++ uses.Stretch place n ∷ []) ∷ []) bs))
-  stretch_begins place cs uncut is =
-      let u = uses.Stretch place n in
-      let begun = state (calls (drop place h.term.others.word) ∷ factors h (us ++ u ∷ []) ∷ []) bs in
-      ap (λ (b : Bool). first_found (flat_map (reach table ps) (option_to_list (if b then with_stretch n h us [] bs place else None)))) uncut
-      ∙ ap (λ (o : Option State). first_found (flat_map (reach table ps) (option_to_list o))) (taking_free us u (Some begun) (nothing_clashes us place n))
-      ∙ first_of_one (reach table ps) begun
-      ∙ ap (λ (l : List Call). first_found (reach table ps (state (calls l ∷ factors h (us ++ u ∷ []) ∷ []) bs))) (sym is)
-
--- what is bound in between is what was bound before
-pub stretch_then : (table : List (Option (List Piece))) (n : ℕ) (ps : List PatternPiece) (h : Host) (us : List Use) (bs made : List Binding) (place : ℕ) → made ≡ bs
-    → stretch_at table n ps h us bs place ≡ stretch_at table n ps h us made place
-stretch_then table n ps h us bs made place same = ap (λ (l : List Binding). stretch_at table n ps h us l place) (sym same)
+          pub over_way : (next : Standing) (later : List PatternPiece) → next ≡ next_standing now 2 (frames.Calls host (place + 1)) → call.pieces ≡ [] → behind ≡ pieces.EndOfArguments ∷ later
+              → (table : List (Option (List Piece))) → IsOnWay table g at here old next later bound
+          over_way next later is_next empty behind_is table =
+              let both : asked ≡ p ∷ pieces.EndOfArguments ∷ later = is ∙ ap (λ (l : List PatternPiece). p ∷ l) behind_is in
+              let last = before_last p pieces.EndOfArguments later both in
+              let middle = next_standing now 1 (frames.Calls host place) in
+              let target = next_standing now 2 (frames.Calls host (place + 1)) in
+              let one = further_on (at.piece + length here) now middle (omega arith) (before_end p behind is) in
+              let two = further_on (at.piece + length here) middle target (omega arith) last in
+              let w = way table in
+              let open_here = shown g mid.takes.items (length g.inners) (frames.Calls host place) w.opens (subst (λ (f : Frame). AreOpen g mid.takes.items (length g.inners) false f w.opens) framed w.stands.0) in
+              let os = calls (drop (place + 1) (host_at g host).term.others.word) ∷ open_here.rest in
+              subst (λ (m : Standing). IsOnWay table g at here old m later bound) (sym is_next)
+              (way_on w target 2 later bound os refl refl (sym (ap (drop 2) both)) refl ((refl, tt, open_here.host, open_here.around), w.stands.1)
+              (λ ps found first r. call_over table ps found g now host place p behind mid framed r (first ∙ is) n is_call call got bound refl refl kept later told lawful small empty behind_is)
+              (omega (arith, one, two)))

@@ -15,7 +15,6 @@ use Rattle.std.proofs.lemmas.List.Sums.{sum_by-cons, sum-map}
 use Rattle.std.proofs.lemmas.List.Elements.{All-append, All-take, All-drop, All-head, All-tail, All-weaker, filter_passes, All-from_recursion, recursion_from_All}
 use Rattle.form_term.specs.declared.power.Power.{Power}
 use Rattle.form_term.specs.declared.power.DotPower.{DotPower}
-use Rattle.form_term.specs.declared.index.Component.{Component}
 use Rattle.form_term.specs.declared.index.Delta.{Delta}
 use Rattle.form_term.specs.Pieces.{deepest}
 use Rattle.form_term.specs.Term.{Term, Others, Call, IsTerm, IsCall, AreFactors, RiseFrom, RisesBy, exponent_in, exponent_of, pair_order, index_order, component_order, delta_order, call_order, size, depth, size_of_call, depth_of_calls, largest_exponent}
@@ -110,14 +109,6 @@ module _ {A : Type 0} (takes : ℕ → Use → Bool) (us : List Use) where
   module _ (xs left : List A) (m k : ℕ) (one : m ≡ k + 1) (within : k < length xs) (before : left ≡ take m xs ++ untaken_from m takes us (drop m xs)) where
     rest_is : untaken_from m takes us (drop m xs) ≡ untaken_from (k + 1) takes us (drop (k + 1) xs)
     rest_is = ap (λ (n : ℕ). untaken_from n takes us (drop n xs)) one
-
-    pub taken_back : (new : List A) (x : A) → x ≡ get_or left k x → true ≡ list_any (takes k) us → new ≡ take k left ++ drop (k + 1) left
-        → new ≡ take k xs ++ untaken_from k takes us (drop k xs)
-    taken_back new x is test out =
-        let rest = untaken_from m takes us (drop m xs) in
-        out
-        ∙ exchanged xs left rest m k one within before [] x
-        ∙ ap (λ (l : List A). take k xs ++ l) (rest_is ∙ untaken_here xs k x true within (is ∙ seen xs left rest m k one within before x) test)
 
     pub kept_back : false ≡ list_any (takes k) us → left ≡ take k xs ++ untaken_from k takes us (drop k xs)
     kept_back test =
@@ -457,12 +448,3 @@ left_of_all t us ps o within left fs is same functions rest =
     ap (term (powers_left us ps)) (rest ∙ ap (λ (gs : List Call). rest_left us (record within { functions = gs })) functions
     ∙ ap (λ (p : Others). rest_left us (record p { functions = untaken takes_function us p.functions })) same)
     ∙ ap (λ (u : Term). left_of u us) (sym is)
-
--- what is left, by its parts
-pub left_is : (t : Term) (us : List Use) (ps : List Power) (b : Bool) (ds : List DotPower) (cs : List Component) (es : List Delta) (fs w : List Call)
-    → ps ≡ powers_left us t.symbols → b ≡ t.others.is_imaginary → ds ≡ dots_left us t.others.dots → cs ≡ untaken takes_component us t.others.components
-    → es ≡ untaken takes_delta us t.others.deltas → fs ≡ untaken takes_function us t.others.functions → w ≡ word_left us t.others.word
-    → record { symbols = ps; others = record { is_imaginary = b; dots = ds; components = cs; deltas = es; functions = fs; word = w } } ≡ left_of t us
-unfolding left_of
-left_is t us ps b ds cs es fs w p q r s u v x =
-    λ i. record { symbols = p i; others = record { is_imaginary = q i; dots = r i; components = s i; deltas = u i; functions = v i; word = x i } }

@@ -1,24 +1,79 @@
--- Where the search stands with one step more, by the kind of that step.
-use Rattle.std.proofs.Common.{◌≡◌, ℕ, zero, suc, ◌-◌, ◌<◌, ◌≤◌, ◌==◌, Bool, true, false, not, ◌&&◌, ◌||◌, IsTrue, List, [], ◌∷◌, ◌++◌, length, drop, if◌then◌else◌, Option, Some, None, option_to_list, refl, sym, ap, subst, ◌∙◌, append-nil, arith, length-append, eqb-true, eq-eqb}
-use Rattle.std.specs.List.{list_any}
+-- Where the search stands, by the frame that is innermost; and once something is taken of a term.
+use Rattle.std.proofs.Common.{◌≡◌, ℕ, zero, suc, ◌-◌, ◌<◌, ◌≤◌, ◌==◌, Bool, true, false, not, ◌&&◌, ◌||◌, IsTrue, List, [], ◌∷◌, ◌++◌, length, if◌then◌else◌, Option, Some, None, option_to_list, refl, sym, ap, subst, ◌∙◌, append-nil, arith, eqb-true, eq-eqb}
+use Rattle.std.specs.List.{list_any, cons_option}
 use Rattle.std.proofs.lemmas.Bool.{ne_eqb}
-use Rattle.form_term.specs.declared.piece.Piece.{Piece}
-use Rattle.form_term.specs.Term.{Term, AreArguments}
-use Rattle.form_term.specs.Arguments.{arguments_of}
-use Rattle.form_match.specs.declared.frames.Frame.{Frame}
-use Rattle.form_match.specs.declared.frames.Frame.TheVariants as frames
-use Rattle.form_match.specs.declared.frames.Span.{Span}
-use Rattle.form_match.specs.declared.frames.Step.{Step}
-use Rattle.form_match.specs.declared.frames.Taken.{Taken}
+use Rattle.form_match.specs.declared.places.Frame.{Frame}
+use Rattle.form_match.specs.declared.places.Frame.TheVariants as frames
+use Rattle.form_match.specs.declared.trail.Taken.{Taken}
 use Rattle.form_match.specs.declared.uses.Use.{Use}
-use Rattle.form_match.specs.Attempts.{AreTaken}
-use Rattle.form_match.specs.Frames.{step_at, frame_of, frame_at, around_of, around_at, open_of, host_of_frame, IsLawfulFrame, latest_around, IsAround, AreOpen, pieces_at, host_of, inner_of, host_at, use_of, uses_at}
-use Rattle.form_match.specs.Matching.{Host, are_apart, clashes, inner}
-use Rattle.form_match.specs.States.{Open, factors, arguments, calls}
+use Rattle.form_match.specs.declared.uses.Use.TheVariants as uses
+use Rattle.form_match.specs.Factors.{IsLawfulUse, frame_of_use, opened}
+use Rattle.form_match.specs.Matching.{are_apart, clashes}
+use Rattle.form_match.specs.Places.{AreOpen, AreTaken, Ground, IsAround, IsLawfulFrame, IsOpenOf, Stands, begins_around, frame_around, host_at, host_of_frame, latest_around, open_of, use_of, uses_at}
+use Rattle.form_match.specs.States.{Open, factors, taken_in}
 use Rattle.form_match.proofs.Portions.{apart_is, both_true, both_false, not_true}
-use Rattle.form_match.proofs.Pushed.{uses_pushed, step_before, step_last, host_before, pieces_before, open_before, lawful_before, around_before, earlier, open_pushed}
+
+-- ---- what is innermost
+
+-- What a frame stands for, and what is around it.
+pub record Shown (g : Ground) (ts : List Taken) (latest : ℕ) (f : Frame) (os : List Open) : Type 0 where
+  pub rest : List Open
+  pub is : os ≡ open_of g ts f ∷ rest
+  pub lawful : IsLawfulFrame g f
+  pub host : host_of_frame f ≤ latest
+  pub around : IsAround f rest (AreOpen g ts (latest_around f) (begins_around f) (frame_around g f) rest)
+
+pub shown : (g : Ground) (ts : List Taken) (latest : ℕ) (f : Frame) (os : List Open) → AreOpen g ts latest false f os → Shown g ts latest f os
+shown g ts latest f [] holds = absurd holds
+shown g ts latest f (o ∷ os) holds = record { rest = os; is = ap (λ (x : Open). x ∷ os) holds.0; lawful = holds.1; host = holds.2; around = holds.3 }
+
+pub earlier : (f : Frame) (latest : ℕ) → host_of_frame f ≤ latest → latest_around f ≤ latest
+earlier (frames.Factors n) latest within = omega arith
+earlier (frames.Arguments span) latest within = within
+earlier (frames.Calls n from) latest within = within
+
+pub around_map : (f : Frame) (os : List Open) (P Q : Type 0) → (P → Q) → IsAround f os P → IsAround f os Q
+around_map (frames.Factors zero) os P Q go holds = holds
+around_map (frames.Factors (suc n)) os P Q go holds = go holds
+around_map (frames.Arguments span) os P Q go holds = go holds
+around_map (frames.Calls n from) os P Q go holds = go holds
+
+-- what is taken of the term itself is what is open last
+pub taken_is : (g : Ground) (ts : List Taken) (latest : ℕ) (b : Bool) (f : Frame) (os : List Open) → AreOpen g ts latest b f os → taken_in os ≡ uses_at ts 0
+taken_is g ts latest b f [] h = absurd h
+taken_is g ts latest b f (o ∷ []) h = by b f h.0 h.3
+  where
+    by : (b : Bool) (f : Frame) → IsOpenOf g ts b f o → IsAround f [] ⊥ → taken_in (o ∷ []) ≡ uses_at ts 0
+    by true (frames.Factors zero) is around = ap (λ (p : Open). taken_in (p ∷ [])) is
+    by false (frames.Factors zero) is around = ap (λ (p : Open). taken_in (p ∷ [])) is
+    by b (frames.Factors (suc n)) is around = absurd around
+    by b (frames.Arguments span) is around = absurd around
+    by b (frames.Calls n from) is around = absurd around
+taken_is g ts latest b f (o ∷ p ∷ os) h = by f h.3 (λ before c e. taken_is g ts before c e (p ∷ os))
+  where
+    by : (f : Frame) → IsAround f (p ∷ os) (AreOpen g ts (latest_around f) (begins_around f) (frame_around g f) (p ∷ os))
+        → ((before : ℕ) (c : Bool) (e : Frame) → AreOpen g ts before c e (p ∷ os) → taken_in (p ∷ os) ≡ uses_at ts 0) → taken_in (p ∷ os) ≡ uses_at ts 0
+    by (frames.Factors zero) around rest = cc
+    by (frames.Factors (suc n)) around rest = rest (suc n - 1) true (frame_around g (frames.Factors (suc n))) around
+    by (frames.Arguments span) around rest = rest span.host false (frame_around g (frames.Arguments span)) around
+    by (frames.Calls n from) around rest = rest n false (frames.Factors n) around
 
 -- ---- what is taken
+
+more_first : (o : Option Use) (us vs : List Use) → cons_option o (us ++ vs) ≡ cons_option o us ++ vs
+more_first None us vs = refl
+more_first (Some u) us vs = refl
+
+last_use : (o : Option Use) → cons_option o [] ≡ option_to_list o
+last_use None = refl
+last_use (Some u) = refl
+
+-- what is taken of a term with one use more
+uses_pushed : (ts : List Taken) (t : Taken) (n : ℕ) → uses_at (ts ++ t ∷ []) n ≡ uses_at ts n ++ option_to_list (use_of n t)
+uses_pushed [] t n = last_use (use_of n t)
+uses_pushed (s ∷ ts) t n =
+    ap (cons_option (use_of n s)) (uses_pushed ts t n)
+    ∙ more_first (use_of n s) (uses_at ts n) (option_to_list (use_of n t))
 
 is_true : (b : Bool) → b ≡ true → IsTrue b
 is_true true is = refl
@@ -38,222 +93,79 @@ apart_more (v ∷ us) u apart free =
     ap (λ (b : Bool). not b && are_apart (us ++ u ∷ [])) (free_more (clashes v) us u (not_true (list_any (clashes v) us) parts.0) frees.0)
     ∙ apart_more us u parts.1 frees.1
 
--- a use of a term
-abbrev pub taken_of : ℕ → Use → Option Taken
-taken_of host u = Some (record { host = host; made = u })
+module _ (g : Ground) (ts : List Taken) (host : ℕ) (u : Use) where
+  abbrev pub taking : List Taken
+  taking = ts ++ record { host = host; made = u } ∷ []
 
-module _ (steps : List Step) (s : Step) where
-  abbrev all_steps : List Step
-  all_steps = steps ++ s ∷ []
+  touched : uses_at taking host ≡ uses_at ts host ++ u ∷ []
+  touched = uses_pushed ts (record { host = host; made = u }) host ∙ ap (λ (b : Bool). uses_at ts host ++ option_to_list (if b then Some u else None)) (eq-eqb host host refl)
 
-  longer : length all_steps ≡ suc (length steps)
-  longer = let e = length-append steps (s ∷ []) in omega (arith, e)
+  untouched : (n : ℕ) → (host == n) ≡ false → uses_at taking n ≡ uses_at ts n
+  untouched n other =
+      uses_pushed ts (record { host = host; made = u }) n
+      ∙ ap (λ (b : Bool). uses_at ts n ++ option_to_list (if b then Some u else None)) other
+      ∙ append-nil (uses_at ts n)
 
-  untouched : (n : ℕ) → use_of n s.taken ≡ None → uses_at all_steps n ≡ uses_at steps n
-  untouched n is = uses_pushed steps s n ∙ ap (λ (o : Option Use). uses_at steps n ++ option_to_list o) is ∙ append-nil (uses_at steps n)
-
-  as_before : (n : ℕ) → use_of n s.taken ≡ None → AreTaken steps → IsTrue (are_apart (uses_at all_steps n)) × (length all_steps < n → uses_at all_steps n ≡ [])
-  as_before n is taken =
-      let same = untouched n is in
-      (subst (λ (us : List Use). IsTrue (are_apart us)) (sym same) (taken n).0, λ later. same ∙ (taken n).1 (omega (arith, longer, later)))
-
-  -- it takes nothing
-  pub nothing_taken : s.taken ≡ None → AreTaken steps → AreTaken all_steps
-  nothing_taken is taken n = as_before n (ap (use_of n) is) taken
-
-  touched : (at : ℕ) (u : Use) → s.taken ≡ taken_of at u → uses_at all_steps at ≡ uses_at steps at ++ u ∷ []
-  touched at u is =
-      uses_pushed steps s at
-      ∙ ap (λ (t : Option Taken). uses_at steps at ++ option_to_list (use_of at t)) is
-      ∙ ap (λ (b : Bool). uses_at steps at ++ option_to_list (if b then Some u else None)) (eq-eqb at at refl)
-
-  -- it takes something that is free
-  pub one_taken : (at : ℕ) (u : Use) → s.taken ≡ taken_of at u → at ≤ length steps → list_any (λ v. clashes v u) (uses_at steps at) ≡ false → AreTaken steps → AreTaken all_steps
-  one_taken at u is within free taken n = by (at == n) refl
+  still_taken : host ≤ length g.inners → list_any (λ v. clashes v u) (uses_at ts host) ≡ false → AreTaken g ts → AreTaken g taking
+  still_taken within free taken n = by (host == n) refl
     where
-      by : (b : Bool) → (at == n) ≡ b → IsTrue (are_apart (uses_at all_steps n)) × (length all_steps < n → uses_at all_steps n ≡ [])
+      by : (b : Bool) → (host == n) ≡ b → IsTrue (are_apart (uses_at taking n)) × (length g.inners < n → uses_at taking n ≡ [])
       by true e =
-          let same : at ≡ n = eqb-true at n e in
-          let apart = apart_more (uses_at steps at) u (apart_is (taken at).0) free in (
-            subst (λ (k : ℕ). IsTrue (are_apart (uses_at all_steps k))) same (subst (λ (us : List Use). IsTrue (are_apart us)) (sym (touched at u is)) (is_true (are_apart (uses_at steps at ++ u ∷ [])) apart)),
-            λ later. absurd (omega (arith, longer, later, within, same)),
+          let same : host ≡ n = eqb-true host n e in
+          let apart = apart_more (uses_at ts host) u (apart_is (taken host).0) free in (
+            subst (λ (k : ℕ). IsTrue (are_apart (uses_at taking k))) same (subst (λ (us : List Use). IsTrue (are_apart us)) (sym touched) (is_true (are_apart (uses_at ts host ++ u ∷ [])) apart)),
+            λ later. absurd (omega (arith, later, within, same)),
           )
-      by false e = as_before n (ap (use_of n) is ∙ ap (λ (b : Bool). if b then Some u else None) e) taken
+      by false e =
+          let same = untouched n e in
+          (subst (λ (us : List Use). IsTrue (are_apart us)) (sym same) (taken n).0, λ later. same ∙ (taken n).1 later)
 
--- ---- what is open
+  still_shown : (b : Bool) (f : Frame) (o : Open) → host_of_frame f < host → IsOpenOf g ts b f o → IsOpenOf g taking b f o
+  still_shown true (frames.Factors n) o before is = is ∙ ap (factors (host_at g n)) (sym (untouched n (ne_eqb host n (λ e. omega (arith, e, before)))))
+  still_shown true (frames.Arguments span) o before is = is
+  still_shown true (frames.Calls n from) o before is = is
+  still_shown false (frames.Factors n) o before is = is ∙ ap (factors (host_at g n)) (sym (untouched n (ne_eqb host n (λ e. omega (arith, e, before)))))
+  still_shown false (frames.Arguments span) o before is = is
+  still_shown false (frames.Calls n from) o before is = is
 
--- What a frame stands for where it is behind so many steps, and what is around it.
-pub record Shown (steps : List Step) (outermost : Host) (latest n : ℕ) (f : Frame) (os : List Open) : Type 0 where
-  pub rest : List Open
-  pub is : os ≡ open_of steps outermost f ∷ rest
-  pub frame : frame_at steps n ≡ f
-  pub lawful : IsLawfulFrame steps outermost f
-  pub host : host_of_frame f ≤ latest
-  pub within : n ≤ length steps
-  pub around : IsAround f rest (AreOpen steps outermost (latest_around f) (around_at steps n) rest)
-
-pub shown : (steps : List Step) (outermost : Host) (latest n : ℕ) (f : Frame) (os : List Open) → frame_at steps n ≡ f → AreOpen steps outermost latest n os → Shown steps outermost latest n f os
-shown steps outermost latest n f [] is holds = absurd holds
-shown steps outermost latest n f (o ∷ os) is holds =
-    let here : Shown steps outermost latest n (frame_at steps n) (o ∷ os) = record {
-      rest = os;
-      is = ap (λ (x : Open). x ∷ os) holds.0;
-      frame = refl;
-      lawful = holds.1;
-      host = holds.2;
-      within = holds.3;
-      around = holds.4;
-    } in
-    subst (λ (g : Frame). Shown steps outermost latest n g (o ∷ os)) is here
-
-module _ (steps : List Step) (s : Step) (outermost : Host) where
-  abbrev more : List Step
-  more = steps ++ s ∷ []
-
-  abbrev IsPlaced : ℕ → ℕ → Open → List Open → Frame → ℕ → Type 0
-  IsPlaced latest n o os f a =
-      (o ≡ open_of more outermost f) × IsLawfulFrame more outermost f × (host_of_frame f ≤ latest) × (n ≤ length more)
-      × IsAround f os (AreOpen more outermost (latest_around f) a os)
-
-  placed : (latest n : ℕ) (f : Frame) (a : ℕ) (o : Open) (os : List Open) → frame_at more n ≡ f → around_at more n ≡ a
-      → o ≡ open_of more outermost f → IsLawfulFrame more outermost f → host_of_frame f ≤ latest → n ≤ length more
-      → IsAround f os (AreOpen more outermost (latest_around f) a os) → AreOpen more outermost latest n (o ∷ os)
-  placed latest n f a o os framed around is lawful host within holds =
-      subst (λ (g : Frame). IsPlaced latest n o os g (around_at more n)) (sym framed)
-      (subst (λ (b : ℕ). IsPlaced latest n o os f b) (sym around) (is, lawful, host, within, holds))
-
-  -- what the step leaves is innermost
-  opened : (f : Frame) (a : ℕ) (o : Open) (os : List Open) → s.frame ≡ f → s.around ≡ a → o ≡ open_of more outermost f → IsLawfulFrame more outermost f
-      → host_of_frame f ≤ suc (length steps) → IsAround f os (AreOpen more outermost (latest_around f) a os) → AreOpen more outermost (length more) (length more) (o ∷ os)
-  opened f a o os framed around is lawful host holds =
-      let count = longer steps s in
-      let last : step_at more (length more) ≡ Some s = ap (step_at more) count ∙ step_last steps s in
-      placed (length more) (length more) f a o os (ap frame_of last ∙ framed) (ap around_of last ∙ around) is lawful (omega (arith, host, count)) (omega arith) holds
-
-  -- what was innermost before is around it, once it has changed so
-  below : (latest n : ℕ) (f : Frame) (o : Open) (os : List Open) → frame_at steps n ≡ f → n ≤ length steps → o ≡ open_of more outermost f
-      → IsLawfulFrame more outermost f → host_of_frame f ≤ latest → IsAround f os (AreOpen more outermost (latest_around f) (around_at steps n) os) → AreOpen more outermost latest n (o ∷ os)
-  below latest n f o os framed within is lawful host holds =
-      let same = step_before steps s n within in
-      placed latest n f (around_at steps n) o os (ap frame_of same ∙ framed) (ap around_of same) is lawful host (omega (arith, within, longer steps s)) holds
-
-  -- ---- something of a term is taken
+  -- what is of earlier terms is open as it was
+  still_open : (latest : ℕ) (b : Bool) (f : Frame) (os : List Open) → latest < host → AreOpen g ts latest b f os → AreOpen g taking latest b f os
+  still_open latest b f [] before holds = holds
+  still_open latest b f (o ∷ os) before holds =
+      let less = earlier f latest holds.2 in (
+        still_shown b f o (omega (arith, before, holds.2)) holds.0,
+        holds.1,
+        holds.2,
+        around_map f os (AreOpen g ts (latest_around f) (begins_around f) (frame_around g f) os) (AreOpen g taking (latest_around f) (begins_around f) (frame_around g f) os)
+            (still_open (latest_around f) (begins_around f) (frame_around g f) os (omega (arith, before, less))) holds.3,
+      )
 
   -- what is around the factors of that term stays
-  factors_around : (at around : ℕ) (os : List Open) → at ≤ length steps → ((h : ℕ) → h < at → use_of h s.taken ≡ None)
-      → IsAround (frames.Factors at) os (AreOpen steps outermost (at - 1) around os) → IsAround (frames.Factors at) os (AreOpen more outermost (at - 1) around os)
-  factors_around zero around os within none holds = holds
-  factors_around (suc m) around os within none holds =
-      open_pushed steps s outermost (suc m - 1) around os (omega (arith, within)) (λ h before. none h (omega (arith, before))) holds
+  still_around : (n : ℕ) (os : List Open) → n ≡ host → IsAround (frames.Factors n) os (AreOpen g ts (n - 1) true (frame_around g (frames.Factors n)) os)
+      → IsAround (frames.Factors n) os (AreOpen g taking (n - 1) true (frame_around g (frames.Factors n)) os)
+  still_around zero os same holds = holds
+  still_around (suc n) os same holds = still_open (suc n - 1) true (frame_around g (frames.Factors (suc n))) os (omega (arith, same)) holds
 
-  module _ (at : ℕ) (u : Use) (os : List Open) (holds : Shown steps outermost (length steps) (length steps) (frames.Factors at) os) (is : s.taken ≡ taken_of at u) where
+  module _ (os : List Open) (holds : Shown g ts (length g.inners) (frames.Factors host) os) where
     abbrev with_more : Open
-    with_more = factors (host_at steps outermost at) (uses_at steps at ++ u ∷ [])
+    with_more = factors (host_at g host) (uses_at ts host ++ u ∷ [])
 
-    earlier_free : (h : ℕ) → h < at → use_of h s.taken ≡ None
-    earlier_free h before = ap (use_of h) is ∙ ap (λ (b : Bool). if b then Some u else None) (ne_eqb at h (λ e. omega (arith, e, before)))
+    more_open : (latest : ℕ) → host ≤ latest → AreOpen g taking latest false (frames.Factors host) (with_more ∷ holds.rest)
+    more_open latest within = (ap (factors (host_at g host)) (sym touched), tt, within, still_around host holds.rest refl holds.around)
 
-    is_more : with_more ≡ open_of more outermost (frames.Factors at)
-    is_more = sym (ap (λ (h : Host). factors h (uses_at more at)) (host_before steps s outermost at holds.host) ∙ ap (factors (host_at steps outermost at)) (touched steps s at u is))
+  -- what is open once this is taken
+  use_opens : (v : Use) → v ≡ u → (os : List Open) (holds : Shown g ts (length g.inners) (frames.Factors host) os) → IsLawfulUse (host_at g host) v
+      → AreOpen g taking (length g.inners) false (frame_of_use host v) (opened (host_at g host) (uses_at ts host) holds.rest v)
+  use_opens (uses.Symbol s k) same os holds lawful = subst (λ (w : Use). AreOpen g taking (length g.inners) false (frames.Factors host) (factors (host_at g host) (uses_at ts host ++ w ∷ []) ∷ holds.rest)) (sym same) (more_open os holds (length g.inners) holds.host)
+  use_opens (uses.Dot m k) same os holds lawful = subst (λ (w : Use). AreOpen g taking (length g.inners) false (frames.Factors host) (factors (host_at g host) (uses_at ts host ++ w ∷ []) ∷ holds.rest)) (sym same) (more_open os holds (length g.inners) holds.host)
+  use_opens (uses.Component m) same os holds lawful = subst (λ (w : Use). AreOpen g taking (length g.inners) false (frames.Factors host) (factors (host_at g host) (uses_at ts host ++ w ∷ []) ∷ holds.rest)) (sym same) (more_open os holds (length g.inners) holds.host)
+  use_opens (uses.Delta m) same os holds lawful = subst (λ (w : Use). AreOpen g taking (length g.inners) false (frames.Factors host) (factors (host_at g host) (uses_at ts host ++ w ∷ []) ∷ holds.rest)) (sym same) (more_open os holds (length g.inners) holds.host)
+  use_opens (uses.Function m) same os holds lawful =
+      (refl, lawful, holds.host, subst (λ (w : Use). AreOpen g taking host false (frames.Factors host) (factors (host_at g host) (uses_at ts host ++ w ∷ []) ∷ holds.rest)) (sym same) (more_open os holds host (omega arith)))
+  use_opens (uses.Stretch start n) same os holds lawful =
+      (refl, tt, holds.host, subst (λ (w : Use). AreOpen g taking host false (frames.Factors host) (factors (host_at g host) (uses_at ts host ++ w ∷ []) ∷ holds.rest)) (sym same) (more_open os holds host (omega arith)))
 
-    around_more : IsAround (frames.Factors at) holds.rest (AreOpen more outermost (at - 1) (around_at steps (length steps)) holds.rest)
-    around_more = factors_around at (around_at steps (length steps)) holds.rest holds.host earlier_free holds.around
-
-    -- the factors go on
-    pub factors_on : s.frame ≡ frames.Factors at → s.around ≡ around_at steps (length steps) → AreOpen more outermost (length more) (length more) (with_more ∷ holds.rest)
-    factors_on framed around =
-        opened (frames.Factors at) (around_at steps (length steps)) with_more holds.rest framed around is_more tt (omega (arith, holds.host)) around_more
-
-    factors_below : AreOpen more outermost at (length steps) (with_more ∷ holds.rest)
-    factors_below = below at (length steps) (frames.Factors at) with_more holds.rest holds.frame (omega arith) is_more tt (omega arith) around_more
-
-    -- the arguments of a function begin
-    pub function_begins : (span : Span) (ps : List Piece) → s.frame ≡ frames.Arguments span → s.around ≡ length steps → span.host ≡ at → pieces_at steps outermost span ≡ ps → AreArguments ps
-        → AreOpen more outermost (length more) (length more) (arguments (arguments_of ps) ∷ with_more ∷ holds.rest)
-    function_begins span ps framed around host pieces lawful =
-        let within : span.host ≤ length steps = omega (arith, holds.host, host) in
-        let same : ps ≡ pieces_at more outermost span = sym (pieces_before steps s outermost span within ∙ pieces) in
-        opened (frames.Arguments span) (length steps) (arguments (arguments_of ps)) (with_more ∷ holds.rest) framed around
-        (ap (λ (qs : List Piece). arguments (arguments_of qs)) same) (subst AreArguments same lawful) (omega (arith, within))
-        (subst (λ (k : ℕ). AreOpen more outermost k (length steps) (with_more ∷ holds.rest)) (sym host) factors_below)
-
-    -- a word begins
-    pub word_begins : (from : ℕ) → s.frame ≡ frames.Calls at from → s.around ≡ length steps
-        → AreOpen more outermost (length more) (length more) (calls (drop from (host_at steps outermost at).term.others.word) ∷ with_more ∷ holds.rest)
-    word_begins from framed around =
-        opened (frames.Calls at from) (length steps) (calls (drop from (host_at steps outermost at).term.others.word)) (with_more ∷ holds.rest) framed around
-        (ap (λ (h : Host). calls (drop from h.term.others.word)) (sym (host_before steps s outermost at holds.host))) tt (omega (arith, holds.host)) factors_below
-
-  -- ---- nothing is taken
-
-  module _ (is : s.taken ≡ None) where
-    free : (latest h : ℕ) → h ≤ latest → use_of h s.taken ≡ None
-    free latest h before = ap (use_of h) is
-
-    same_around : (f : Frame) (around : ℕ) (os : List Open) → latest_around f ≤ length steps
-        → IsAround f os (AreOpen steps outermost (latest_around f) around os) → IsAround f os (AreOpen more outermost (latest_around f) around os)
-    same_around f around os within =
-        around_before steps s outermost f os (AreOpen steps outermost (latest_around f) around os) (AreOpen more outermost (latest_around f) around os)
-        (open_pushed steps s outermost (latest_around f) around os within (free (latest_around f)))
-
-    module _ (latest n : ℕ) (os : List Open) (within : latest ≤ length steps) where
-      -- a frame is innermost again
-      pub again : (f : Frame) (holds : Shown steps outermost latest n f os) → s.frame ≡ f → s.around ≡ around_at steps n → AreOpen more outermost (length more) (length more) os
-      again f holds framed around =
-          let host : host_of_frame f ≤ length steps = omega (arith, holds.host, within) in
-          let before = earlier steps s outermost f latest holds.host in
-          subst (AreOpen more outermost (length more) (length more)) (sym holds.is)
-          (opened f (around_at steps n) (open_of steps outermost f) holds.rest framed around
-          (sym (open_before steps s outermost f host (ap (use_of (host_of_frame f)) is))) (lawful_before steps s outermost f host holds.lawful) (omega (arith, host))
-          (same_around f (around_at steps n) holds.rest (omega (arith, before, within)) holds.around))
-
-      -- arguments, of which others are left
-      pub arguments_on : (span next : Span) (ps : List Piece) (holds : Shown steps outermost latest n (frames.Arguments span) os) → s.frame ≡ frames.Arguments next
-          → s.around ≡ around_at steps n → next.host ≡ span.host → pieces_at steps outermost next ≡ ps → AreArguments ps
-          → AreOpen more outermost (length more) (length more) (arguments (arguments_of ps) ∷ holds.rest)
-      arguments_on span next ps holds framed around host pieces lawful =
-          let inside : next.host ≤ length steps = omega (arith, holds.host, within, host) in
-          let same : ps ≡ pieces_at more outermost next = sym (pieces_before steps s outermost next inside ∙ pieces) in
-          let old = same_around (frames.Arguments span) (around_at steps n) holds.rest (omega (arith, holds.host, within)) holds.around in
-          opened (frames.Arguments next) (around_at steps n) (arguments (arguments_of ps)) holds.rest framed around
-          (ap (λ (qs : List Piece). arguments (arguments_of qs)) same) (subst AreArguments same lawful) (omega (arith, inside))
-          (subst (λ (k : ℕ). AreOpen more outermost k (around_at steps n) holds.rest) (sym host) old)
-
-      -- a word, of which less is left
-      pub calls_on : (at from next : ℕ) (holds : Shown steps outermost latest n (frames.Calls at from) os) → s.frame ≡ frames.Calls at next → s.around ≡ around_at steps n
-          → AreOpen more outermost (length more) (length more) (calls (drop next (host_at steps outermost at).term.others.word) ∷ holds.rest)
-      calls_on at from next holds framed around =
-          let inside : at ≤ length steps = omega (arith, holds.host, within) in
-          opened (frames.Calls at next) (around_at steps n) (calls (drop next (host_at steps outermost at).term.others.word)) holds.rest framed around
-          (ap (λ (h : Host). calls (drop next h.term.others.word)) (sym (host_before steps s outermost at inside))) tt (omega (arith, inside))
-          (same_around (frames.Calls at from) (around_at steps n) holds.rest inside holds.around)
-
-    -- the arguments of a function of a word begin
-    pub call_begins : (at from : ℕ) (os : List Open) (span : Span) (ps : List Piece) (holds : Shown steps outermost (length steps) (length steps) (frames.Calls at from) os)
-        → s.frame ≡ frames.Arguments span → s.around ≡ length steps → span.host ≡ at → pieces_at steps outermost span ≡ ps → AreArguments ps
-        → AreOpen more outermost (length more) (length more) (arguments (arguments_of ps) ∷ os)
-    call_begins at from os span ps holds framed around host pieces lawful =
-        let inside : at ≤ length steps = holds.host in
-        let within : span.host ≤ length steps = omega (arith, holds.host, host) in
-        let same : ps ≡ pieces_at more outermost span = sym (pieces_before steps s outermost span within ∙ pieces) in
-        let old : AreOpen more outermost at (length steps) os =
-        subst (AreOpen more outermost at (length steps)) (sym holds.is)
-        (below at (length steps) (frames.Calls at from) (open_of steps outermost (frames.Calls at from)) holds.rest holds.frame (omega arith)
-        (sym (open_before steps s outermost (frames.Calls at from) inside (ap (use_of at) is))) tt (omega arith)
-        (same_around (frames.Calls at from) (around_at steps (length steps)) holds.rest inside holds.around)) in
-        opened (frames.Arguments span) (length steps) (arguments (arguments_of ps)) os framed around
-        (ap (λ (qs : List Piece). arguments (arguments_of qs)) same) (subst AreArguments same lawful) (omega (arith, within))
-        (subst (λ (k : ℕ). AreOpen more outermost k (length steps) os) (sym host) old)
-
-    -- the factors of a term in an argument begin
-    pub product_begins : (t : Term) (os : List Open) → AreOpen steps outermost (length steps) (length steps) os → AreTaken steps → s.frame ≡ frames.Factors (suc (length steps))
-        → s.around ≡ length steps → s.inner ≡ Some t → AreOpen more outermost (length more) (length more) (factors (inner t) [] ∷ os)
-    product_begins t os holds taken framed around made =
-        let n = suc (length steps) in
-        let host : host_at more outermost n ≡ inner t = ap (λ (x : Option Step). host_of outermost (inner_of x)) (step_last steps s) ∙ ap (host_of outermost) made in
-        let none : uses_at more n ≡ [] = untouched steps s n (ap (use_of n) is) ∙ (taken n).1 (omega arith) in
-        let less : length steps ≡ n - 1 = omega arith in
-        let old = open_pushed steps s outermost (length steps) (length steps) os (omega arith) (free (length steps)) holds in
-        opened (frames.Factors n) (length steps) (factors (inner t) []) os framed around
-        (sym (ap (λ (h : Host). factors h (uses_at more n)) host ∙ ap (factors (inner t)) none)) tt (omega arith)
-        (subst (λ (k : ℕ). AreOpen more outermost k (length steps) os) less old)
+  -- the search stands there, once something is taken that is free
+  pub stands_taking : (os : List Open) (holds : Shown g ts (length g.inners) (frames.Factors host) os) → AreTaken g ts → list_any (λ v. clashes v u) (uses_at ts host) ≡ false
+      → IsLawfulUse (host_at g host) u → Stands g taking (frame_of_use host u) (opened (host_at g host) (uses_at ts host) holds.rest u)
+  stands_taking os holds taken free lawful = (use_opens u refl os holds lawful, still_taken holds.host free taken)

@@ -1,5 +1,5 @@
--- Powers stay where nothing is taken of a symbol, and functions where none is taken.
-use Rattle.std.proofs.Common.{◌≡◌, ℕ, ◌+◌, ◌<◌, Bool, false, cond, ℤ, pos, ◌-ℤ◌, List, [], ◌∷◌, ◌++◌, map, refl, ap, ◌∙◌, arith, lt-ltb}
+-- Powers stay where nothing is taken of a symbol.
+use Rattle.std.proofs.Common.{◌≡◌, ℕ, ◌<◌, Bool, false, cond, ℤ, pos, ◌-ℤ◌, List, [], ◌∷◌, map, refl, ap, ◌∙◌, arith, lt-ltb}
 use Rattle.std.proofs.lemmas.Int.{ints}
 use Rattle.std.specs.Prelude.{All, filter, nat_abs, nat_lt, ◌+ℤ◌}
 use Rattle.std.specs.List.{list_any}
@@ -7,9 +7,8 @@ use Rattle.std.proofs.lemmas.List.Elements.{All-head, All-tail}
 use Rattle.form_term.specs.declared.power.Power.{Power}
 use Rattle.form_match.specs.declared.uses.Use.{Use}
 use Rattle.form_match.specs.declared.uses.Use.TheVariants as uses
-use Rattle.form_match.specs.Left.{powers_left, symbol_taken, taken, takes_function}
-use Rattle.form_match.specs.Taken.{is_of_function, is_of_symbol, unless}
-use Rattle.form_match.proofs.Remaining.{untaken_from, untaken_more}
+use Rattle.form_match.specs.Left.{powers_left, symbol_taken, taken}
+use Rattle.form_match.specs.Taken.{is_of_symbol}
 
 -- nothing is taken of any symbol
 none_taken : (s : ℕ) (us : List Use) → list_any is_of_symbol us ≡ false → taken (symbol_taken s) us ≡ pos 0
@@ -32,19 +31,3 @@ powers_stay us (p ∷ ps) none present =
     ap (λ (q : Power). filter (λ r. nat_lt 0 (nat_abs r.exponent)) (q ∷ map (λ r. record { symbol = r.symbol; exponent = r.exponent -ℤ taken (symbol_taken r.symbol) us }) ps)) same
     ∙ ap (λ (b : Bool). cond b (p ∷ powers_left us ps) (powers_left us ps)) (lt-ltb 0 (nat_abs p.exponent) (All-head (λ (r : Power). 0 < nat_abs r.exponent) p ps present))
     ∙ ap (λ (l : List Power). p ∷ l) (powers_stay us ps none (All-tail (λ (r : Power). 0 < nat_abs r.exponent) p ps present))
-
-no_function : (n : ℕ) (us : List Use) → list_any is_of_function us ≡ false → list_any (takes_function n) us ≡ false
-no_function n [] none = refl
-no_function n (uses.Symbol t k ∷ us) none = no_function n us none
-no_function n (uses.Dot m k ∷ us) none = no_function n us none
-no_function n (uses.Component m ∷ us) none = no_function n us none
-no_function n (uses.Delta m ∷ us) none = no_function n us none
-no_function n (uses.Function m ∷ us) none = cc
-no_function n (uses.Stretch start m ∷ us) none = no_function n us none
-
-pub functions_stay : {A : Type 0} (us : List Use) (n : ℕ) (xs : List A) → list_any is_of_function us ≡ false → untaken_from n takes_function us xs ≡ xs
-functions_stay us n [] none = refl
-functions_stay us n (x ∷ xs) none =
-    untaken_more takes_function us n x xs
-    ∙ ap (λ (b : Bool). unless b x ++ untaken_from (n + 1) takes_function us xs) (no_function n us none)
-    ∙ ap (λ (l : List _). x ∷ l) (functions_stay us (n + 1) xs none)

@@ -1,22 +1,14 @@
 -- From the first one on, the candidates of a piece make all that the piece may make.
-use Rattle.std.proofs.Common.{◌≡◌, ℕ, suc, ◌-◌, Bool, true, cond, List, [], ◌∷◌, length, take, Option, refl, sym, ap, ◌∙◌, arith, le-leb}
-use Rattle.std.specs.Prelude.{filter}
+use Rattle.std.proofs.Common.{◌≡◌, suc, ◌-◌, List, [], ◌∷◌, length, Option, refl, sym, ap, ◌∙◌}
 use Rattle.std.specs.List.{filter_map, range_with_len}
 use Rattle.form_term.specs.declared.piece.Piece.{Piece}
-use Rattle.form_term.specs.Term as terms
-use Rattle.form_term.specs.Term.{pieces_of_arguments}
 use Rattle.form_tree.specs.declared.pattern.PatternPiece.{PatternPiece}
 use Rattle.form_tree.specs.declared.pattern.PatternPiece.TheVariants as pieces
-use Rattle.form_match.specs.Candidates.{candidates, trial, function_trial, stretch_trial, from, is_behind}
+use Rattle.form_match.specs.Candidates.{candidates, trial, function_trial, stretch_trial, from}
 use Rattle.form_match.specs.States.{Open, factors, arguments, calls, with_field, moves}
 use Rattle.form_bindings.specs.Values.{Binding}
+use Rattle.form_match.proofs.Cutting.{all_behind}
 use Rattle.form_match.proofs.Numbered.{candidates_all, symbol_moves, whole_moves, dot_moves, component_moves, delta_moves, function_moves, stretch_moves}
-
-all_behind : (xs : List terms.Argument) (ns : List ℕ) → filter (is_behind xs 0) ns ≡ ns
-all_behind xs [] = refl
-all_behind xs (n ∷ ns) =
-    let first : is_behind xs 0 n ≡ true = le-leb 0 (length (pieces_of_arguments (take n xs))) (omega arith) in
-    ap (λ (b : Bool). cond b (n ∷ filter (is_behind xs 0) ns) (filter (is_behind xs 0) ns)) first ∙ ap (λ (l : List ℕ). n ∷ l) (all_behind xs ns)
 
 -- from the first candidate on, these are all moves
 pub from_all : (table : List (Option (List Piece))) (p : PatternPiece) (os : List Open) (bs : List Binding) → from table p os bs 0 ≡ moves table p os bs

@@ -3,11 +3,13 @@ use Rattle.std.specs.Prelude.{◌≡◌, ℕ, ◌<◌, ◌==◌, nat_lt, nat_abs
 use Rattle.std.specs.Option.{unwrap_or}
 use Rattle.form_term.specs.declared.power.Power.{Power}
 use Rattle.form_term.specs.declared.power.DotPower.{DotPower}
+use Rattle.form_match.specs.declared.taken.Things.{Things}
+use Rattle.form_match.specs.declared.taken.Things.TheVariants as things
 use Rattle.form_match.specs.declared.uses.Use.{Use}
 use Rattle.form_match.specs.declared.uses.Use.TheVariants as uses
 use Rattle.form_match.specs.Fits.{FitsExponent}
 use Rattle.form_term.specs.Term.{Others}
-use Rattle.form_match.specs.Left.{symbol_taken, dot_taken, taken, dots_left, takes_component, takes_delta, untaken, word_left}
+use Rattle.form_match.specs.Left.{symbol_taken, dot_taken, taken, dots_left, takes_component, takes_delta, takes_function, untaken, word_left}
 
 -- so much of a symbol, or of the dot product at a place, where a use is one of it
 abbrev pub symbol_part : ℕ → Use → Option ℤ
@@ -23,10 +25,11 @@ abbrev pub is_of_symbol : Use → Bool
 is_of_symbol (uses.Symbol t k) = true
 is_of_symbol _ = false
 
--- whether a use is of a commuting function
-abbrev pub is_of_function : Use → Bool
-is_of_function (uses.Function n) = true
-is_of_function _ = false
+-- whether a use is of the one of these things at a place
+abbrev pub takes_thing : Things → ℕ → Use → Bool
+takes_thing things.Components = takes_component
+takes_thing things.Deltas = takes_delta
+takes_thing things.Functions = takes_function
 
 -- that of the first use
 abbrev pub first_part : (Use → Option ℤ) → List Use → ℤ

@@ -1,94 +1,154 @@
 //! Pieces of a pattern where arguments of a function are open.
-ghost use Rattle.std.specs.Prelude.{◌≡◌, ◌+◌, ◌<◌, ◌≤◌, ◌^◌, List, Option, None, IfOk, drop, length, option_map, take as take_first};
+ghost use Rattle.std.specs.Prelude.{◌≡◌, ◌≢◌, ◌+◌, ◌<◌, ◌≤◌, ◌^◌, ◌∷◌, List, Option, None, Some, [], if◌then◌else◌, IfOk, IfSome, MatchOption, ℕ, length, option_map, take as take_first};
 ghost use Rattle.form_term.specs.declared.piece.Piece.{Piece};
 ghost use Rattle.form_term.specs.Arguments.{arguments_of};
-ghost use Rattle.form_term.specs.Term.{Argument, AreArguments, pieces_of_argument};
+ghost use Rattle.form_term.specs.Term.{Argument, AreArguments, is_nil, pieces_of_argument};
+ghost use Rattle.form_tree.specs.declared.pattern.PatternPiece.{PatternPiece};
 ghost use Rattle.form_tree.specs.declared.pattern.PatternPiece.TheVariants as of_pattern;
 ghost use Rattle.form_tree.specs.declared.pattern.Sort.TheVariants as sorts;
-ghost use Rattle.form_match.specs.declared.frames.Frame.TheVariants as frames;
-ghost use Rattle.form_match.specs.declared.frames.Span.{Span};
-ghost use Rattle.form_match.specs.declared.frames.Attempt.TheVariants as attempts;
-ghost use Rattle.form_match.specs.Attempts.{IfOne, IsAttempt, IsSomewhere, IsTried, StandBehind, any_asked, begins_sum, index_alone, table_of, vector_alone};
-ghost use Rattle.form_match.specs.Frames.{around_at as around_in, frame_at as frame_in, ground_of, pieces_at as pieces_in};
+ghost use Rattle.form_match.specs.declared.places.Frame.TheVariants as frames;
+ghost use Rattle.form_match.specs.Parts.{BeginsOtherwise, BeginsWith, IsFirstOf, IsFront, IsOnly, any_asked, begins_sum, index_alone, single_count as single_count_of, table_of, vector_alone};
+ghost use Rattle.form_match.specs.Leading.{IsPlain, LeadsTo, Takes, TakesAlone, TakesFirst, next_standing};
+ghost use Rattle.form_match.specs.States.{Open, arguments as left_of_arguments, moves};
 ghost use Rattle.form_bindings.specs.Learning.{Tells};
 ghost use Rattle.form_match.specs.Learning.{learnt_of};
-ghost use Rattle.form_match.specs.Matching.{Host, is_coefficient_one, is_fixed_argument as is_fixed_argument_of};
-ghost use Rattle.form_match.specs.Parts.{IsFirstOf, IsOnly, IsWalked};
-ghost use Rattle.form_match.specs.States.{Open};
-ghost use Rattle.form_bindings.specs.Values.{Binding};
+ghost use Rattle.form_match.specs.Places.{behind as behind_span, ground_of};
+ghost use Rattle.form_match.specs.Running.{IsCandidate, IsLess, IsSomewhere, IsStep};
+ghost use Rattle.form_match.specs.Matching.{is_coefficient_one, is_fixed_argument as is_fixed_argument_of};
 
 use crate::asking::{ask_declared, ask_expression, ask_vector};
-use crate::frames::{
-    Attempt, Frame, Ground, Move, Span, Step, alone, around_at, frame_at, host_at, pieces_at,
-    without,
-};
-use crate::host::Host;
+use crate::places::{Frame, Inner, Span, Terms};
+use crate::trail::{Standing, Trail};
 use form_base::Id;
 use form_bindings::{Bindings, Wildcard, is_same};
 use form_frac::Frac;
-use form_term::laws::{lawful_pieces, reading_of_arguments};
 use form_term::{Call, Index, Monomial, Piece, part_len, terms_in};
 use form_tree::{Name, PatternPiece, Sort};
 use std::alloc::{AllocError, Global};
 
-/// A piece where arguments of a function are open.
-pub fn attempt_argument(
+/// Takes the first of these pieces, and those behind it that have one candidate each, where arguments are open.
+pub fn in_arguments(
     alloc: Global,
-    steps: &[Step],
-    bindings: &mut Bindings,
-    outermost: &Ground,
+    terms: &mut Terms,
+    trail: &mut Trail,
+    at: &Standing,
     span: &Span,
-    piece: &PatternPiece,
-    candidate: usize,
-) -> Result<Attempt, AllocError>
-    requires framed { frame_in steps.now (length steps.now) ≡ frames.Arguments span.now }
-    requires stands { IsSomewhere steps.now (ground_of outermost.now) }
-    ensures tried { IsTried result (table_of outermost.now.fixed.now) piece.now steps.now (ground_of outermost.now) candidate
-        bindings.old bindings.new }
-    ensures kept { take_first (length bindings.old) bindings.new ≡ bindings.old }
+    pieces: &[PatternPiece],
+    fixed: &[Option<Call>],
+) -> Result<Option<Standing>, AllocError>
+    requires framed { at.now.frame ≡ frames.Arguments span.now }
+    requires stands { IsSomewhere (ground_of terms.old) trail.old.takes.items at.now pieces.now }
+    ensures goes_on { IsStep result (table_of fixed.now) pieces.now at.now (ground_of terms.old) (ground_of terms.new)
+        trail.old trail.new }
+    ensures less { IsLess result pieces.now at.now trail.old trail.new }
 {
-    let pieces = pieces_at(steps, outermost, span);
+    let Some((piece, behind)) = pieces.split_first() else {
+        return Ok(None);
+    };
     match piece {
-        PatternPiece::Field(field) => {
-            attempt_field(steps, bindings, pieces, span, *field, candidate)
-        }
-        _ => attempt_single(
-            alloc, steps, bindings, outermost, pieces, span, piece, candidate,
-        ),
+        PatternPiece::Product => product(alloc, terms, trail, at, span, behind),
+        _ => arguments(terms, trail, at, span, pieces, fixed),
     }
 }
 
-/// A piece that has one candidate at most where arguments are open.
-fn attempt_single(
-    alloc: Global,
-    steps: &[Step],
-    bindings: &mut Bindings,
-    outermost: &Ground,
-    pieces: &[Piece],
+/// Takes arguments up to their end, or to a piece that begins a product.
+fn arguments(
+    terms: &Terms,
+    trail: &mut Trail,
+    at: &Standing,
     span: &Span,
+    pieces: &[PatternPiece],
+    fixed: &[Option<Call>],
+) -> Result<Option<Standing>, AllocError>
+    requires framed { at.now.frame ≡ frames.Arguments span.now }
+    requires stands { IsSomewhere (ground_of terms.now) trail.old.takes.items at.now pieces.now }
+    requires no_product { (behind : List PatternPiece) → pieces.now ≢ of_pattern.Product ∷ behind }
+    ensures goes_on { IsStep result (table_of fixed.now) pieces.now at.now (ground_of terms.now) (ground_of terms.now)
+        trail.old trail.new }
+    ensures less { IsLess result pieces.now at.now trail.old trail.new }
+{
+    let mut now = *at;
+    let mut left = *span;
+    let mut rest = terms.pieces(span);
+    let mut asked = pieces;
+    while let Some((piece, behind)) = asked.split_first() {
+        let taken = match piece {
+            PatternPiece::EndOfArguments => return Ok(end_of_arguments(&now, &left, rest)),
+            PatternPiece::Product => return Ok(Some(now)),
+            _ => argument_len(terms, trail, &now, piece, behind, rest, fixed)?,
+        };
+        let Some(len) = taken else {
+            return Ok(None);
+        };
+        left = left.without(len);
+        now = now.ahead(1, Frame::Arguments(left));
+        let (_, others) = rest.split_at(len);
+        rest = others;
+        asked = behind;
+    }
+    Ok(Some(now))
+}
+
+/// The arguments of a function end: what is around them goes on.
+fn end_of_arguments(at: &Standing, span: &Span, rest: &[Piece]) -> Option<Standing>
+    requires room { at.now.piece + 1 < 2 ^ 64 }
+    requires place { span.now.place + 1 < 2 ^ 64 }
+    ensures { result ≡ (if is_nil rest.now then Some (next_standing at.now 1 (behind_span span.now)) else None) }
+{
+    if rest.is_empty() {
+        Some(at.ahead(1, span.around()))
+    } else {
+        None
+    }
+}
+
+/// How many pieces of these arguments a piece takes that begins no product, none where it can't take them. These pieces are
+/// behind it.
+fn argument_len(
+    terms: &Terms,
+    trail: &mut Trail,
+    at: &Standing,
     piece: &PatternPiece,
-    candidate: usize,
-) -> Result<Attempt, AllocError>
-    requires framed { frame_in steps.now (length steps.now) ≡ frames.Arguments span.now }
-    requires lawful { AreArguments pieces.now }
-    requires room { span.now.from + length pieces.now < 2 ^ 64 }
-    ensures tried { (os : List Open) → pieces.now ≡ pieces_in steps.now (ground_of outermost.now) span.now →
-        StandBehind steps.now (ground_of outermost.now) os → IfOne piece.now
-        (IfOk result (λ a. IsAttempt a (table_of outermost.now.fixed.now) piece.now steps.now (ground_of outermost.now) os candidate bindings.old bindings.new)) }
+    behind: &[PatternPiece],
+    rest: &[Piece],
+    fixed: &[Option<Call>],
+) -> Result<Option<usize>, AllocError>
+    requires lawful { AreArguments rest.now }
+    requires candidate { IsCandidate piece.now (left_of_arguments (arguments_of rest.now) ∷ []) at.now.candidate }
+    requires no_end { piece.now ≢ of_pattern.EndOfArguments }
+    requires no_product { piece.now ≢ of_pattern.Product }
+    ensures { IfOk result (Takes (table_of fixed.now) piece.now behind.now rest.now at.now
+        (length (ground_of terms.now).inners) trail.old trail.new) }
+{
+    match piece {
+        PatternPiece::Field(field) => take_field(terms, trail, at, *field, rest, behind),
+        _ => single_len(&mut trail.bindings, fixed, piece, rest),
+    }
+}
+
+/// How many pieces of these arguments a piece takes that takes one argument, none where it can't take the first one.
+fn single_len(
+    bindings: &mut Bindings,
+    fixed: &[Option<Call>],
+    piece: &PatternPiece,
+    rest: &[Piece],
+) -> Result<Option<usize>, AllocError>
+    requires { AreArguments rest.now }
+    ensures alone { IsPlain piece.now → IfOk result (TakesAlone (table_of fixed.now) piece.now rest.now bindings.old bindings.new) }
+    ensures front { IfOk result (λ n. IfSome n (IsFront rest.now 1)) }
     ensures kept { take_first (length bindings.old) bindings.new ≡ bindings.old }
 {
-    if candidate != 0 {
-        return Ok(Attempt::Spent);
-    }
-    match piece {
-        PatternPiece::EndOfArguments => end_of_arguments(steps, outermost, pieces),
-        PatternPiece::Product => begin_product(alloc, steps, pieces),
-        PatternPiece::Fixed(number) => {
-            attempt_fixed(steps, outermost.fixed, pieces, span, *number)
-        }
-        PatternPiece::Any(sort, name) => { attempt_any(steps, bindings, pieces, span, *sort, name) }
-        _ => Ok(Attempt::Spent),
-    }
+    let Some((part, _)) = first_argument(rest) else {
+        return Ok(None);
+    };
+    let is_taken = take_argument(bindings, fixed, piece, part)?;
+    Ok(where_taken(is_taken, part.len()))
+}
+
+fn where_taken(is_taken: bool, len: usize) -> Option<usize>
+    ensures { result ≡ (if is_taken then Some len else None) }
+{
+    if is_taken { Some(len) } else { None }
 }
 
 /// The pieces of the first of these arguments, and those behind it; none where there are no arguments.
@@ -99,91 +159,188 @@ pub fn first_argument(pieces: &[Piece]) -> Option<(&[Piece], &[Piece])>
     if pieces.is_empty() {
         return None;
     }
-    reading_of_arguments();
     Some(pieces.split_at(part_len(pieces)))
 }
 
-/// How many pieces the first of these arguments has.
-pub fn first_len(pieces: &[Piece]) -> usize
-    requires { AreArguments pieces.now }
-    ensures behind { arguments_of (drop result pieces.now) ≡ drop 1 (arguments_of pieces.now) }
-    ensures lawful { AreArguments (drop result pieces.now) }
-    ensures within { result ≤ length pieces.now }
-{
-    match first_argument(pieces) {
-        Some((part, _)) => part.len(),
-        None => 0,
-    }
-}
-
-/// What holds of a function's arguments, for the proofs of callers; it does nothing.
-pub fn lawful_arguments(call: &Call)
-    ensures { AreArguments call.now.pieces }
-{
-    let _ = call.pieces();
-    lawful_pieces();
-}
-
-/// The arguments of a function end: what is around them goes on.
-fn end_of_arguments(
-    steps: &[Step],
-    outermost: &Ground,
+/// How many pieces a field takes of these arguments from a candidate on, none where it can't take any: a candidate is how
+/// many it takes. What it is bound to already is the only one, and so is all but the arguments that the pieces behind it take
+/// one by one, where they do.
+fn take_field(
+    terms: &Terms,
+    trail: &mut Trail,
+    at: &Standing,
+    field: usize,
     pieces: &[Piece],
-) -> Result<Attempt, AllocError>
-    ensures { (table : List (Option (List Piece))) (span : Span) (bs : List Binding) →
-        frame_in steps.now (length steps.now) ≡ frames.Arguments span → pieces.now ≡ pieces_in steps.now (ground_of outermost.now) span →
-        IsTried result table of_pattern.EndOfArguments steps.now (ground_of outermost.now) 0 bs bs }
-{
-    if !pieces.is_empty() {
-        return Ok(Attempt::Failed(1));
-    }
-    let around = around_at(steps, steps.len());
-    match frame_at(steps, around) {
-        Frame::Factors(at) => Ok(alone(Frame::Factors(at), around_at(steps, around))),
-        Frame::Calls(at, from) => {
-            let next = behind_call(&host_at(steps, outermost, at), from);
-            Ok(alone(Frame::Calls(at, next), around_at(steps, around)))
-        }
-        Frame::Arguments(_) => Ok(Attempt::Failed(1)),
-    }
-}
-
-/// The place behind a function of a word: the word's end serves for any past it.
-fn behind_call(host: &Host, from: usize) -> usize
-    ensures { drop result host.now.term.others.word ≡ drop (from + 1) host.now.term.others.word }
-{
-    let length = host.term().word().len();
-    if from < length {
-        return from + 1;
-    }
-    length
-}
-
-/// An argument without wildcards, by its number.
-fn attempt_fixed(
-    steps: &[Step],
-    fixed: &[Option<Call>],
-    pieces: &[Piece],
-    span: &Span,
-    number: usize,
-) -> Result<Attempt, AllocError>
-    requires framed { frame_in steps.now (length steps.now) ≡ frames.Arguments span.now }
+    behind: &[PatternPiece],
+) -> Result<Option<usize>, AllocError>
     requires lawful { AreArguments pieces.now }
-    requires room { span.now.from + length pieces.now < 2 ^ 64 }
-    ensures { (g : Host) (bs : List Binding) → pieces.now ≡ pieces_in steps.now g span.now →
-        IsTried result (table_of fixed.now) (of_pattern.Fixed number) steps.now g 0 bs bs }
+    requires candidate { (count : ℕ) × IsFront pieces.now count at.now.candidate }
+    ensures { IfOk result (λ n. (table : List (Option (List Piece))) →
+        Takes table (of_pattern.Field field) behind.now pieces.now at.now (length (ground_of terms.now).inners) trail.old trail.new n) }
 {
-    let Some((part, _)) = first_argument(pieces) else {
-        return Ok(Attempt::Failed(1));
-    };
-    if !is_fixed_argument(fixed, number, part) {
-        return Ok(Attempt::Failed(1));
+    if at.candidate != 0 {
+        return take_one_by_one(terms, trail, at, field, pieces);
     }
-    go_on(steps, span, part)
+    if let Some(value) = trail.bindings.value_of(Wildcard::Field(field)) {
+        return Ok(front_len(pieces, value));
+    }
+    match single_count(behind) {
+        Some(count) => take_all_but(&mut trail.bindings, field, pieces, count),
+        None => take_one_by_one(terms, trail, at, field, pieces),
+    }
+}
+
+/// All but so many arguments for a field.
+fn take_all_but(
+    bindings: &mut Bindings,
+    field: usize,
+    pieces: &[Piece],
+    count: usize,
+) -> Result<Option<usize>, AllocError>
+    requires { AreArguments pieces.now }
+    ensures first { (behind : List PatternPiece) → single_count_of behind ≡ Some count →
+        IfOk result (λ n. TakesFirst field behind pieces.now bindings.old bindings.new 0 n None) }
+    ensures front { IfOk result (λ n. IfSome n (λ len. (first : ℕ) × IsFront pieces.now first len)) }
+    ensures kept { take_first (length bindings.old) bindings.new ≡ bindings.old }
+{
+    let Some(len) = len_without_last(pieces, count) else {
+        return Ok(None);
+    };
+    let is_learnt = bindings.learn(Wildcard::Field(field), &pieces[..len])?;
+    Ok(where_taken(is_learnt, len))
+}
+
+/// The arguments of a candidate for a field, and maybe more as a choice that is left.
+fn take_one_by_one(
+    terms: &Terms,
+    trail: &mut Trail,
+    at: &Standing,
+    field: usize,
+    pieces: &[Piece],
+) -> Result<Option<usize>, AllocError>
+    requires lawful { AreArguments pieces.now }
+    requires candidate { (count : ℕ) × IsFront pieces.now count at.now.candidate }
+    ensures { IfOk result (λ n. (table : List (Option (List Piece))) (behind : List PatternPiece) →
+        Takes table (of_pattern.Field field) behind pieces.now at.now (length (ground_of terms.now).inners) trail.old trail.new n) }
+{
+    let more = one_more(pieces, at.candidate);
+    trail.keep_next(at, more, terms.count())?;
+    let is_learnt = trail
+        .bindings
+        .learn(Wildcard::Field(field), &pieces[..at.candidate])?;
+    Ok(where_taken(is_learnt, at.candidate))
+}
+
+/// How many pieces this value of a field has, where these arguments begin with it.
+fn front_len(pieces: &[Piece], value: &[Piece]) -> Option<usize>
+    requires lawful { AreArguments pieces.now }
+    requires lawful_value { AreArguments value.now }
+    ensures { MatchOption result (BeginsOtherwise pieces.now value.now) (BeginsWith pieces.now value.now) }
+{
+    let len = value.len();
+    if len <= pieces.len() && is_same(value, &pieces[..len]) {
+        Some(len)
+    } else {
+        None
+    }
+}
+
+/// How many arguments these pieces take up to the end of the arguments, where each takes one: none where a field or a
+/// product is among them.
+fn single_count(pieces: &[PatternPiece]) -> Option<usize>
+    ensures { result ≡ single_count_of pieces.now }
+{
+    let mut count: usize = 0;
+    for piece in pieces {
+        match piece {
+            PatternPiece::Fixed(_) | PatternPiece::Any(_, _) => count += 1,
+            PatternPiece::EndOfArguments => return Some(count),
+            _ => return None,
+        }
+    }
+    None
+}
+
+/// How many pieces these arguments have without so many of the last ones, none where there are fewer.
+fn len_without_last(pieces: &[Piece], count: usize) -> Option<usize>
+    requires { AreArguments pieces.now }
+    ensures { MatchOption result (length (arguments_of pieces.now) < count)
+        (λ n. (first : ℕ) × IsFront pieces.now first n × (first + count ≡ length (arguments_of pieces.now))) }
+{
+    if count == 0 {
+        return Some(pieces.len());
+    }
+    let all = argument_count(pieces);
+    if all < count {
+        None
+    } else {
+        Some(len_of_first(pieces, all - count))
+    }
+}
+
+/// How many arguments these are.
+fn argument_count(pieces: &[Piece]) -> usize
+    requires { AreArguments pieces.now }
+    ensures { result ≡ length (arguments_of pieces.now) }
+{
+    let mut count: usize = 0;
+    let mut rest = pieces;
+    while let Some((_part, behind)) = first_argument(rest) {
+        count += 1;
+        rest = behind;
+    }
+    count
+}
+
+/// How many pieces the first so many of these arguments have.
+fn len_of_first(pieces: &[Piece], count: usize) -> usize
+    requires lawful { AreArguments pieces.now }
+    requires within { count ≤ length (arguments_of pieces.now) }
+    ensures { IsFront pieces.now count result }
+{
+    let mut len: usize = 0;
+    for _argument in 0..count {
+        len += part_len(&pieces[len..]);
+    }
+    len
+}
+
+/// How many pieces an argument more than these first pieces has, none where there is none.
+fn one_more(pieces: &[Piece], len: usize) -> Option<usize>
+    requires lawful { AreArguments pieces.now }
+    requires front { (count : ℕ) × IsFront pieces.now count len }
+    ensures { (count : ℕ) → IsFront pieces.now count len →
+        MatchOption result (count ≡ length (arguments_of pieces.now))
+        (λ more. (count < length (arguments_of pieces.now)) × IsFront pieces.now (count + 1) more) }
+{
+    if len < pieces.len() {
+        Some(len + part_len(&pieces[len..]))
+    } else {
+        None
+    }
+}
+
+/// Whether a piece that takes one argument takes this one.
+fn take_argument(
+    bindings: &mut Bindings,
+    fixed: &[Option<Call>],
+    piece: &PatternPiece,
+    part: &[Piece],
+) -> Result<bool, AllocError>
+    requires { AreArguments part.now }
+    ensures told { (a : Argument) (xs : List Argument) (os : List Open) → IsPlain piece.now → part.now ≡ pieces_of_argument a →
+        IfOk result (λ b. LeadsTo b (moves (table_of fixed.now) piece.now (left_of_arguments (a ∷ xs) ∷ os) bindings.old) (left_of_arguments xs ∷ os) bindings.new) }
+    ensures kept { take_first (length bindings.old) bindings.new ≡ bindings.old }
+{
+    match piece {
+        PatternPiece::Fixed(number) => Ok(is_fixed_argument(fixed, *number, part)),
+        PatternPiece::Any(sort, name) => ask_argument(bindings, *sort, name, part),
+        _ => Ok(false),
+    }
 }
 
 /// Whether an argument is the one of this number, which has no wildcards.
-pub fn is_fixed_argument(fixed: &[Option<Call>], number: usize, part: &[Piece]) -> bool
+fn is_fixed_argument(fixed: &[Option<Call>], number: usize, part: &[Piece]) -> bool
     ensures { result ≡ is_fixed_argument_of (table_of fixed.now) number part.now }
 {
     match fixed.get(number) {
@@ -192,33 +349,8 @@ pub fn is_fixed_argument(fixed: &[Option<Call>], number: usize, part: &[Piece]) 
     }
 }
 
-/// A wildcard for an argument.
-fn attempt_any(
-    steps: &[Step],
-    bindings: &mut Bindings,
-    pieces: &[Piece],
-    span: &Span,
-    sort: Sort,
-    name: &Name,
-) -> Result<Attempt, AllocError>
-    requires framed { frame_in steps.now (length steps.now) ≡ frames.Arguments span.now }
-    requires lawful { AreArguments pieces.now }
-    requires room { span.now.from + length pieces.now < 2 ^ 64 }
-    ensures tried { (g : Host) (table : List (Option (List Piece))) → pieces.now ≡ pieces_in steps.now g span.now →
-        IsTried result table (of_pattern.Any sort name.now) steps.now g 0 bindings.old bindings.new }
-    ensures kept { take_first (length bindings.old) bindings.new ≡ bindings.old }
-{
-    let Some((part, _)) = first_argument(pieces) else {
-        return Ok(Attempt::Failed(1));
-    };
-    if !ask_argument(bindings, sort, name, part)? {
-        return Ok(Attempt::Failed(1));
-    }
-    go_on(steps, span, part)
-}
-
 /// What is asked of a wildcard for an argument.
-pub fn ask_argument(
+fn ask_argument(
     bindings: &mut Bindings,
     sort: Sort,
     name: &Name,
@@ -301,109 +433,37 @@ fn vector_alone(part: &[Piece]) -> Option<Id>
     }
 }
 
-/// The arguments behind the first one go on.
-fn go_on(steps: &[Step], span: &Span, part: &[Piece]) -> Result<Attempt, AllocError>
-    requires { span.now.from + length part.now < 2 ^ 64 }
-    ensures { IfOk result (λ a. a ≡ attempts.Made 1 (record {
-      frame = frames.Arguments (record span.now { from = span.now.from + length part.now });
-      around = around_in steps.now (length steps.now);
-      taken = None;
-      inner = None;
-    })) }
-{
-    let frame = without(span, part.len());
-    Ok(alone(frame, around_at(steps, steps.len())))
-}
-
-/// A field of arguments: the fewest of them that have so many pieces, and the next candidate takes more.
-fn attempt_field(
-    steps: &[Step],
-    bindings: &mut Bindings,
-    pieces: &[Piece],
-    span: &Span,
-    field: usize,
-    candidate: usize,
-) -> Result<Attempt, AllocError>
-    requires framed { frame_in steps.now (length steps.now) ≡ frames.Arguments span.now }
-    requires lawful { AreArguments pieces.now }
-    requires room { span.now.from + length pieces.now < 2 ^ 64 }
-    ensures tried { (g : Host) (table : List (Option (List Piece))) → pieces.now ≡ pieces_in steps.now g span.now →
-        IsTried result table (of_pattern.Field field) steps.now g candidate bindings.old bindings.new }
-    ensures kept { take_first (length bindings.old) bindings.new ≡ bindings.old }
-{
-    lawful_pieces();
-    let count = pieces.len();
-    if count < candidate {
-        return Ok(Attempt::Spent);
-    }
-    let len = arguments_len(pieces, candidate);
-    let next = next_candidate(pieces, len);
-    let frame = without(span, len);
-    let (front, _) = pieces.split_at(len);
-    if !bindings.learn(Wildcard::Field(field), front)? {
-        return Ok(Attempt::Failed(next));
-    }
-    Ok(Attempt::Made(
-        next,
-        Move {
-            frame,
-            around: around_at(steps, steps.len()),
-            taken: None,
-            inner: None,
-        },
-    ))
-}
-
-/// The candidate behind a field of so many pieces.
-fn next_candidate(pieces: &[Piece], len: usize) -> usize
-    requires { len ≤ length pieces.now }
-    ensures { result ≡ len + 1 }
-{
-    len + 1
-}
-
-/// How many pieces the fewest of these arguments have that have at least so many.
-fn arguments_len(pieces: &[Piece], least: usize) -> usize
-    requires lawful { AreArguments pieces.now }
-    requires within { least ≤ length pieces.now }
-    ensures walked { IsWalked pieces.now least result }
-    ensures enough { least ≤ result }
-{
-    let mut rest = pieces;
-    let mut count: usize = 0;
-    while count < least {
-        let Some((part, behind)) = first_argument(rest) else {
-            return count;
-        };
-        count += part.len();
-        rest = behind;
-    }
-    count
-}
-
 /// An argument that is a product: it has to be an expression of one term, of coefficient 1, whose factors are then tried.
-fn begin_product(alloc: Global, steps: &[Step], pieces: &[Piece]) -> Result<Attempt, AllocError>
-    requires { AreArguments pieces.now }
-    ensures { (g : Host) (table : List (Option (List Piece))) (span : Span) (bs : List Binding) →
-        frame_in steps.now (length steps.now) ≡ frames.Arguments span → pieces.now ≡ pieces_in steps.now g span →
-        IsTried result table of_pattern.Product steps.now g 0 bs bs }
+fn product(
+    alloc: Global,
+    terms: &mut Terms,
+    trail: &Trail,
+    at: &Standing,
+    span: &Span,
+    behind: &[PatternPiece],
+) -> Result<Option<Standing>, AllocError>
+    requires framed { at.now.frame ≡ frames.Arguments span.now }
+    requires stands { IsSomewhere (ground_of terms.old) trail.now.takes.items at.now (of_pattern.Product ∷ behind.now) }
+    ensures goes_on { (table : List (Option (List Piece))) →
+        IsStep result table (of_pattern.Product ∷ behind.now) at.now (ground_of terms.old) (ground_of terms.new) trail.now trail.now }
+    ensures less { IsLess result (of_pattern.Product ∷ behind.now) at.now trail.now trail.now }
 {
-    let terms = terms_in(alloc, pieces)?;
-    let Some(only) = only_one(terms) else {
-        return Ok(Attempt::Failed(1));
+    let pieces = terms.pieces(span);
+    let Some((part, _)) = first_argument(pieces) else {
+        return Ok(None);
+    };
+    let others = span.without(part.len());
+    let Some(only) = only_one(terms_in(alloc, pieces)?) else {
+        return Ok(None);
     };
     if !is_one(&only.coefficient) {
-        return Ok(Attempt::Failed(1));
+        return Ok(None);
     }
-    Ok(Attempt::Made(
-        1,
-        Move {
-            frame: Frame::Factors(steps.len() + 1),
-            around: steps.len(),
-            taken: None,
-            inner: Some(only.term),
-        },
-    ))
+    terms.push(Inner {
+        term: only.term,
+        behind: others,
+    })?;
+    Ok(Some(at.ahead(1, Frame::Factors(terms.count()))))
 }
 
 /// The only one of these, none where there is another number of them.

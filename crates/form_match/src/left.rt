@@ -2,15 +2,13 @@ ghost use Rattle.std.specs.Prelude.{◌≡◌, ◌++◌, ◌+◌, ◌<◌, ◌-�
 ghost use Rattle.std.specs.Bool.{OnTrue};
 ghost use Rattle.std.specs.List.{list_any};
 ghost use Rattle.form_match.specs.Fits.{Fits, FitsExponent};
-ghost use Rattle.form_match.specs.Left.{left_of as left_of_term, dots_left as dots_left_of, powers_left as powers_left_of, symbol_taken as symbol_taken_by, dot_taken as dot_taken_by, taken, takes_component, takes_delta, takes_function, untaken, without_stretch as without_stretch_of, word_left as word_left_of};
+ghost use Rattle.form_match.specs.Left.{left_of as left_of_term, dots_left as dots_left_of, powers_left as powers_left_of, symbol_taken as symbol_taken_by, dot_taken as dot_taken_by, taken, untaken, without_stretch as without_stretch_of, word_left as word_left_of};
 ghost use Rattle.form_match.specs.Matching.{are_apart};
-ghost use Rattle.form_match.specs.Taken.{FitsDots, FitsSymbols, IsOfFunctions, is_of_function, is_of_symbol, present_dot, present_power, rest_left, unless};
+ghost use Rattle.form_match.specs.Taken.{FitsDots, FitsSymbols, IsOfFunctions, is_of_symbol, present_dot, present_power, rest_left, takes_thing};
 
 use crate::Use;
-use crate::taken::{
-    dot_taken, is_component_taken, is_delta_taken, is_function_taken, symbol_taken,
-};
-use form_term::{Call, Component, Delta, DotPower, Others, Power, Term};
+use crate::taken::{Things, dot_taken, is_taken, symbol_taken};
+use form_term::{Call, DotPower, Others, Power, Term};
 use std::alloc::{AllocError, Global};
 use std::mem;
 
@@ -22,7 +20,7 @@ pub fn left_of(alloc: Global, term: Term, takes: &[Use]) -> Result<Term, AllocEr
     let (powers, others) = term.into_factors(alloc);
     let powers = powers_left(powers, takes);
     let mut others = others;
-    leave_functions(&mut others.functions, takes);
+    leave(&mut others.functions, Things::Functions, takes);
     leave_rest(alloc, &mut others, takes)?;
     Term::from_factors(alloc, powers, others)
 }
@@ -56,8 +54,8 @@ fn leave_each(alloc: Global, others: &mut Others, takes: &[Use]) -> Result<(), A
     ensures { OnOk result (others.new ≡ rest_left takes.now others.old) }
 {
     others.dots = dots_left(alloc, others.dots.as_slice(), takes)?;
-    others.components = components_left(alloc, others.components.as_slice(), takes)?;
-    others.deltas = deltas_left(alloc, others.deltas.as_slice(), takes)?;
+    leave(&mut others.components, Things::Components, takes);
+    leave(&mut others.deltas, Things::Deltas, takes);
     let word = mem::replace(&mut others.word, Vec::new(alloc));
     others.word = word_left(word, takes);
     Ok(())
@@ -175,73 +173,16 @@ fn put_dot(left: &mut Vec<DotPower>, dot: &DotPower) -> Result<(), AllocError>
     Ok(())
 }
 
-fn components_left(
-    alloc: Global,
-    components: &[Component],
-    takes: &[Use],
-) -> Result<Vec<Component>, AllocError>
-    ensures { IfOk result (λ left. left.items ≡ untaken takes_component takes.now components.now) }
+/// Leaves those of these things that aren't taken.
+fn leave<T: Drop>(things: &mut Vec<T>, of: Things, takes: &[Use])
+    ensures { things.new.items ≡ untaken (takes_thing of) takes.now things.old.items }
 {
-    let mut left = Vec::with_capacity(alloc, components.len())?;
-    let mut place: usize = 0;
-    for component in components {
-        keep(&mut left, *component, is_component_taken(place, takes))?;
-        place += 1;
-    }
-    Ok(left)
-}
-
-/// Puts something last unless it is taken.
-fn keep<T: Drop>(left: &mut Vec<T>, one: T, is_taken: bool) -> Result<(), AllocError>
-    ensures { OnOk result (left.new.items ≡ left.old.items ++ unless is_taken one) }
-{
-    if !is_taken {
-        left.push(one)?;
-    }
-    Ok(())
-}
-
-fn deltas_left(alloc: Global, deltas: &[Delta], takes: &[Use]) -> Result<Vec<Delta>, AllocError>
-    ensures { IfOk result (λ left. left.items ≡ untaken takes_delta takes.now deltas.now) }
-{
-    let mut left = Vec::with_capacity(alloc, deltas.len())?;
-    let mut place: usize = 0;
-    for delta in deltas {
-        keep(&mut left, *delta, is_delta_taken(place, takes))?;
-        place += 1;
-    }
-    Ok(left)
-}
-
-/// Leaves the functions that aren't taken.
-fn leave_functions(functions: &mut Vec<Call>, takes: &[Use])
-    ensures { functions.new.items ≡ untaken takes_function takes.now functions.old.items }
-{
-    if !takes_functions(takes) {
-        return;
-    }
-    let mut place = functions.len();
+    let mut place = things.len();
     while place > 0 {
         place -= 1;
-        if is_function_taken(place, takes) {
-            functions.remove(place);
+        if is_taken(of, place, takes) {
+            things.remove(place);
         }
-    }
-}
-
-/// Whether commuting functions are taken.
-fn takes_functions(takes: &[Use]) -> bool
-    ensures { result ≡ list_any is_of_function takes.now }
-{
-    takes.iter().any(|one| is_of_function(one))
-}
-
-fn is_of_function(one: &Use) -> bool
-    ensures { result ≡ is_of_function one.now }
-{
-    match one {
-        Use::Function(_) => true,
-        _ => false,
     }
 }
 

@@ -1,21 +1,13 @@
-ghost use Rattle.std.specs.Prelude.{◌≡◌, ℕ, List, Option, IfOk, IfSome, true};
-ghost use Rattle.std.specs.List.{list_all};
-ghost use Rattle.form_term.specs.Term.{IsTerm};
-ghost use Rattle.form_term.specs.declared.piece.Piece.{Piece};
+ghost use Rattle.std.specs.Prelude.{◌≡◌, IfOk, IfSome};
 ghost use Rattle.form_tree.specs.Pattern.{Factors, pieces_of_factors};
 ghost use Rattle.form_match.specs.Fits.{Fits};
 ghost use Rattle.form_match.specs.Matching.{first_match as first_match_of, first_of as first_of_all};
-ghost use Rattle.form_match.specs.Attempts.{table_of};
-ghost use Rattle.form_match.specs.Frames.{ground_of};
-ghost use Rattle.form_match.specs.States.{first_found, reach, start};
-ghost use Rattle.form_match.specs.Straight.{is_straight};
-ghost use Rattle.form_match.specs.Symbols.{is_plain};
+ghost use Rattle.form_term.specs.Term.{IsTerm};
+ghost use Rattle.form_match.specs.Factors.{IsFirstCandidate};
 
-use crate::frames::Ground;
-use crate::lacking::lacks_first;
+use crate::choices::next_candidate;
+use crate::host::Host;
 use crate::search::Search;
-use crate::straight::straight_match;
-use crate::symbols::{are_symbols, find_powers};
 use crate::{Pattern, Uses};
 use form_bindings::Bindings;
 use form_term::Term;
@@ -55,64 +47,16 @@ pub fn first_of(
         IfOk result (λ m. m ≡ first_of_all pattern.now.fixed fs term.now cuts.now is_exact) }
     ensures fits { IfOk result (λ m. IfSome m (λ found. Fits found.takes term.now)) }
 {
-    let pieces = pattern.pieces();
-    if are_symbols(pieces) {
-        return first_of_symbols(alloc, pieces, term, is_exact);
-    }
-    if lacks_first(term, pieces) {
+    term_laws(term);
+    let Some(first) = first_candidate(&Host::outer(term, cuts, is_exact), pattern.pieces()) else {
+        return Ok(None);
+    };
+    let mut search = Search::new(alloc, term, cuts, is_exact);
+    if !search.run(alloc, pattern.pieces(), pattern.fixed(), first)? {
         return Ok(None);
     }
-    term_laws(term);
-    let outermost = Ground {
-        term,
-        cuts,
-        is_exact,
-        fixed: pattern.fixed(),
-    };
-    if pattern.is_straight() {
-        return straight_first(alloc, &outermost, pieces);
-    }
-    searched(alloc, &outermost, pieces)
-}
-
-/// The first match of a pattern that is tried straight on.
-#[inline(never)]
-fn straight_first(
-    alloc: Global,
-    outermost: &Ground,
-    pieces: &[PatternPiece],
-) -> Result<Option<Match>, AllocError>
-    requires lawful { IsTerm outermost.now.term.now }
-    requires straight { is_straight pieces.now ≡ true }
-    ensures { IfOk result (λ m.
-        m ≡ first_found (reach (table_of outermost.now.fixed.now) pieces.now (start (ground_of outermost.now)))) }
-{
-    let mut takes = Uses::new(alloc);
-    let mut bindings = Bindings::new(alloc);
-    let is_found = straight_match(&mut takes, &mut bindings, outermost, pieces)?;
-    if is_found {
-        return Ok(Some(Match { takes, bindings }));
-    }
-    Ok(None)
-}
-
-/// The first match, by the search.
-#[inline(never)]
-fn searched(
-    alloc: Global,
-    outermost: &Ground,
-    pieces: &[PatternPiece],
-) -> Result<Option<Match>, AllocError>
-    ensures { IfOk result (λ m.
-        m ≡ first_found (reach (table_of outermost.now.fixed.now) pieces.now (start (ground_of outermost.now)))) }
-{
-    let mut search = Search::with_room(alloc, pieces.len())?;
-    let is_found = search.run(alloc, outermost, pieces)?;
-    if is_found {
-        let found = search.into_match(alloc)?;
-        return Ok(Some(found));
-    }
-    Ok(None)
+    let found = search.into_match(alloc)?;
+    Ok(Some(found))
 }
 
 /// A term is lawful.
@@ -122,22 +66,12 @@ fn term_laws(term: &Term)
     let _ = term.powers();
 }
 
-/// The first match of a pattern of symbols alone.
-#[inline(never)]
-fn first_of_symbols(
-    alloc: Global,
-    pieces: &[PatternPiece],
-    term: &Term,
-    is_exact: bool,
-) -> Result<Option<Match>, AllocError>
-    requires { list_all is_plain pieces.now ≡ true }
-    ensures first { (table : List (Option (List Piece))) (fs : Factors) (cuts : List ℕ) → pieces.now ≡ pieces_of_factors fs →
-        IfOk result (λ m. m ≡ first_of_all table fs term.now cuts is_exact) }
-    ensures fits { IfOk result (λ m. IfSome m (λ found. Fits found.takes term.now)) }
+/// The first candidate of the first piece of a pattern: where there is none, no search is begun.
+fn first_candidate(host: &Host, pieces: &[PatternPiece]) -> Option<usize>
+    ensures { IsFirstCandidate result host.now pieces.now }
 {
-    let Some(takes) = find_powers(alloc, pieces, term.powers(), is_exact)? else {
-        return Ok(None);
-    };
-    let bindings = Bindings::new(alloc);
-    Ok(Some(Match { takes, bindings }))
+    match pieces.split_first() {
+        Some((piece, behind)) => next_candidate(host, piece, behind, 0),
+        None => Some(0),
+    }
 }

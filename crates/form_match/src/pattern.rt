@@ -1,9 +1,7 @@
 ghost use Rattle.std.specs.Prelude.{◌≡◌, map, option_map, IfOk};
 ghost use Rattle.std.specs.List.{list_all, list_any};
 ghost use Rattle.form_match.specs.Ready.{is_itself, is_plain_piece, is_whole_piece, ready};
-ghost use Rattle.form_match.specs.Straight.{is_straight as is_straight_pattern};
 
-use crate::straight::is_straight;
 use form_term::Call;
 use form_tree::{Name, PatternPiece};
 use std::alloc::{AllocError, Global};
@@ -14,8 +12,6 @@ use std::marker::Model;
 pub struct Pattern<'a> {
     pieces: &'a [PatternPiece],
     fixed: Vec<Option<Call>>,
-    /// Whether it is tried straight on.
-    is_straight: bool,
 }
 
 impl Drop for Pattern<'_> {
@@ -23,21 +19,16 @@ impl Drop for Pattern<'_> {
         let Pattern {
             pieces: _,
             fixed: _,
-            is_straight: _,
         } = self;
     }
 }
 
 impl<'a> Model for Pattern<'a> {
-    ghost use Rattle.std.specs.Prelude.{◌≡◌};
     ghost use Rattle.form_match.specs.Ready.{ReadyPattern, ready};
-    ghost use Rattle.form_match.specs.Straight.{is_straight as is_straight_pattern};
 
     ghost Value = { ReadyPattern };
 
     ghost view = { λ p. ready p.pieces.now p.fixed.items };
-
-    ghost invariant = { λ p. p.is_straight ≡ is_straight_pattern p.pieces.now };
 }
 
 impl<'a> Pattern<'a> {
@@ -49,11 +40,7 @@ impl<'a> Pattern<'a> {
         ensures { IfOk result (λ p. p ≡ ready pieces.now fixed.items) }
     {
         let _ = alloc;
-        Ok(Pattern {
-            pieces,
-            fixed,
-            is_straight: is_straight(pieces),
-        })
+        Ok(Pattern { pieces, fixed })
     }
 
     pub fn pieces(&self) -> &'a [PatternPiece]
@@ -67,13 +54,6 @@ impl<'a> Pattern<'a> {
         ensures { map (option_map (λ c. c.pieces)) result.now ≡ self.now.fixed }
     {
         self.fixed.as_slice()
-    }
-
-    /// Whether it is tried straight on.
-    pub(crate) fn is_straight(&self) -> bool
-        ensures { result ≡ is_straight_pattern self.now.pieces }
-    {
-        self.is_straight
     }
 
     /// Whether it has symbols and dot products alone, without wildcards.

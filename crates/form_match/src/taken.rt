@@ -1,9 +1,9 @@
 //! How much of each thing of a term is taken.
 ghost use Rattle.std.specs.Prelude.{◌≡◌, IsTrue};
 ghost use Rattle.std.specs.List.{list_any};
-ghost use Rattle.form_match.specs.Left.{dot_taken as dot_taken_by, symbol_taken as symbol_taken_by, taken, takes_component as takes_component_at, takes_delta as takes_delta_at, takes_function as takes_function_at};
+ghost use Rattle.form_match.specs.Left.{dot_taken as dot_taken_by, symbol_taken as symbol_taken_by, taken};
 ghost use Rattle.form_match.specs.Matching.{are_apart, clashes as clashes_with};
-ghost use Rattle.form_match.specs.Taken.{dot_part, symbol_part};
+ghost use Rattle.form_match.specs.Taken.{dot_part, symbol_part, takes_thing};
 
 use crate::Use;
 use form_base::Id;
@@ -68,47 +68,28 @@ fn part_of_dot(place: usize, one: &Use) -> Option<i64>
     }
 }
 
-pub fn is_component_taken(place: usize, takes: &[Use]) -> bool
-    ensures { result ≡ list_any (takes_component_at place) takes.now }
-{
-    takes.iter().any(|one| takes_component(place, one))
+/// Things of a term that are taken one by one, each by its place.
+#[derive(Clone, Copy)]
+pub enum Things {
+    Components,
+    Deltas,
+    Functions,
 }
 
-fn takes_component(place: usize, one: &Use) -> bool
-    ensures { result ≡ takes_component_at place one.now }
+/// Whether the one of these things at a place is taken.
+pub fn is_taken(of: Things, place: usize, takes: &[Use]) -> bool
+    ensures { result ≡ list_any (takes_thing of place) takes.now }
 {
-    match one {
-        Use::Component(of) => place == *of,
-        _ => false,
-    }
+    takes.iter().any(|one| takes_thing(of, place, one))
 }
 
-pub fn is_delta_taken(place: usize, takes: &[Use]) -> bool
-    ensures { result ≡ list_any (takes_delta_at place) takes.now }
+fn takes_thing(of: Things, place: usize, one: &Use) -> bool
+    ensures { result ≡ takes_thing of place one.now }
 {
-    takes.iter().any(|one| takes_delta(place, one))
-}
-
-fn takes_delta(place: usize, one: &Use) -> bool
-    ensures { result ≡ takes_delta_at place one.now }
-{
-    match one {
-        Use::Delta(of) => place == *of,
-        _ => false,
-    }
-}
-
-pub fn is_function_taken(place: usize, takes: &[Use]) -> bool
-    ensures { result ≡ list_any (takes_function_at place) takes.now }
-{
-    takes.iter().any(|one| takes_function(place, one))
-}
-
-fn takes_function(place: usize, one: &Use) -> bool
-    ensures { result ≡ takes_function_at place one.now }
-{
-    match one {
-        Use::Function(of) => place == *of,
+    match (of, one) {
+        (Things::Components, Use::Component(this)) => place == *this,
+        (Things::Deltas, Use::Delta(this)) => place == *this,
+        (Things::Functions, Use::Function(this)) => place == *this,
         _ => false,
     }
 }

@@ -1,40 +1,27 @@
 //! Whether a term in an argument is taken whole.
 ghost use Rattle.std.specs.Prelude.{◌≡◌, not, ◌+◌, ◌-◌, min, IsTrue};
 ghost use Rattle.form_term.specs.Term.{is_nil};
-ghost use Rattle.form_match.specs.Left.{dot_taken as dot_taken_by, dots_left, is_one, left_of as left_of_term, powers_left, symbol_taken as symbol_taken_by, taken, takes_component, takes_delta, takes_function, untaken};
+ghost use Rattle.form_match.specs.Left.{dot_taken as dot_taken_by, dots_left, is_one, left_of as left_of_term, powers_left, symbol_taken as symbol_taken_by, taken, untaken};
+ghost use Rattle.form_match.specs.Taken.{takes_thing};
 ghost use Rattle.form_match.specs.Matching.{are_apart};
 ghost use Rattle.form_match.specs.Whole.{differ, length_left, shorter};
 
 use crate::Use;
-use crate::taken::{
-    dot_taken, is_component_taken, is_delta_taken, is_function_taken, symbol_taken,
-};
-use form_term::{Call, Component, Delta, DotPower, Power, Term};
+use crate::taken::{Things, dot_taken, is_taken, symbol_taken};
+use form_term::{DotPower, Power, Term};
 
 /// Whether nothing is left of a term once these are taken out.
 pub fn is_taken_whole(term: &Term, takes: &[Use]) -> bool
     requires { IsTrue (are_apart takes.now) }
     ensures { result ≡ is_one (left_of_term term.now takes.now) }
 {
-    if are_powers_left(term.powers(), takes) {
-        return false;
-    }
-    if term.is_imaginary() {
-        return false;
-    }
-    if are_dots_left(term.dots(), takes) {
-        return false;
-    }
-    if are_components_left(term.components(), takes) {
-        return false;
-    }
-    if are_deltas_left(term.deltas(), takes) {
-        return false;
-    }
-    if are_functions_left(term.functions(), takes) {
-        return false;
-    }
-    word_len(term.word().len(), takes) == 0
+    !are_powers_left(term.powers(), takes)
+        & (!term.is_imaginary()
+            & !are_dots_left(term.dots(), takes)
+            & !are_left(term.components(), Things::Components, takes)
+            & !are_left(term.deltas(), Things::Deltas, takes)
+            & !are_left(term.functions(), Things::Functions, takes)
+            & (word_len(term.word().len(), takes) == 0))
 }
 
 fn are_powers_left(powers: &[Power], takes: &[Use]) -> bool
@@ -83,40 +70,13 @@ fn is_dot_left(dot: &DotPower, place: usize, takes: &[Use]) -> bool
     exponent < taken || taken < exponent
 }
 
-fn are_components_left(components: &[Component], takes: &[Use]) -> bool
-    ensures { result ≡ not (is_nil (untaken takes_component takes.now components.now)) }
+/// Whether one of these things isn't taken.
+fn are_left<T>(list: &[T], of: Things, takes: &[Use]) -> bool
+    ensures { result ≡ not (is_nil (untaken (takes_thing of) takes.now list.now)) }
 {
     let mut place: usize = 0;
-    for _one in components {
-        if is_component_taken(place, takes) {
-            place += 1;
-        } else {
-            return true;
-        }
-    }
-    false
-}
-
-fn are_deltas_left(deltas: &[Delta], takes: &[Use]) -> bool
-    ensures { result ≡ not (is_nil (untaken takes_delta takes.now deltas.now)) }
-{
-    let mut place: usize = 0;
-    for _one in deltas {
-        if is_delta_taken(place, takes) {
-            place += 1;
-        } else {
-            return true;
-        }
-    }
-    false
-}
-
-fn are_functions_left(functions: &[Call], takes: &[Use]) -> bool
-    ensures { result ≡ not (is_nil (untaken takes_function takes.now functions.now)) }
-{
-    let mut place: usize = 0;
-    for _one in functions {
-        if is_function_taken(place, takes) {
+    for _one in list {
+        if is_taken(of, place, takes) {
             place += 1;
         } else {
             return true;

@@ -2,8 +2,8 @@
 use Rattle.std.proofs.Common.{◌≡◌, ℕ, zero, suc, ◌+◌, ◌<◌, ◌^◌, List, [], ◌∷◌, ◌++◌, Option, Some, None, Vec, length, length-append, map, set, get_or, refl, sym, ap, subst, ◌∙◌, arith, lit<, length-set, get_or-set_same}
 use Rattle.std.specs.Option.{option_map, unwrap_or, IsSome, IfSome, is_some}
 use Rattle.std.proofs.lemmas.List.{map-set, set-get_or}
-use Rattle.form_outside.specs.Runs.{Contents, IsLive, length_of, bytes_of, Appended, KeepsOthers}
-use Rattle.form_mem.specs.Store.{lengths_in, held_bytes}
+use Rattle.form_outside.specs.Runs.{Contents, IsLive, length_of, lengths_in, bytes_of, Appended, KeepsOthers}
+use Rattle.form_mem.specs.Store.{held_bytes}
 
 -- the length of a run is that of its bytes
 pub length_of-lengths_in : (runs : Contents) (run : ℕ) → length_of (lengths_in runs) run ≡ length (bytes_of runs run)

@@ -1,11 +1,7 @@
 -- What a store in memory holds.
-use Rattle.std.specs.Prelude.{ℕ, List, Option, Vec, map, length, option_map}
-use Rattle.form_outside.specs.Runs.{Contents}
+use Rattle.std.specs.Prelude.{ℕ, List, Option, Vec, map, option_map}
+use Rattle.form_outside.specs.Runs.{Contents, lengths_in}
 use Rattle.form_mem.specs.declared.store.MemStore.{MemStore}
-
--- the lengths of runs that have these bytes
-abbrev pub lengths_in : Contents → List (Option ℕ)
-lengths_in runs = map (option_map length) runs
 
 -- the bytes of a run, none where it was removed
 abbrev pub held_bytes : {A : Type 0} → Option (Vec ℕ A) → Option (List ℕ)

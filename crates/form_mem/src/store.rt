@@ -23,11 +23,15 @@ impl MemStore {
 }
 
 impl Store for MemStore {
+    ghost use Rattle.std.proofs.Common.{rules};
+
     ghost lengths = { lengths_of };
 
     ghost contents = { λ store. Some (runs_of store) };
 
     ghost faults = { λ _. 0 };
+
+    ghost same_lengths = { Prim.search rules };
 
     fn create(&mut self, alloc: Global) -> Result<u64, StoreErr>
         ensures number { IfOk result (λ run. (run ≡ length (runs_of self.old)) × (run < 2 ^ 63)) }

@@ -1,3 +1,4 @@
 pub mod Elements
 pub mod Letters
 pub mod Names
+pub mod Restriction

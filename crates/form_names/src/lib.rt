@@ -6,8 +6,10 @@ mod facts;
 mod kind;
 pub mod laws;
 mod names;
+mod restriction;
 
 pub use elements::{Elements, Ids, Numbers};
 pub(crate) use facts::Facts;
 pub use kind::{Dimension, Kind};
 pub use names::{DeclareError, Names};
+pub use restriction::Restriction;

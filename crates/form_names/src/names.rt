@@ -1,12 +1,18 @@
 ghost use Rattle.std.specs.Prelude.{◌≡◌, ◌<◌, ◌-◌, ◌^◌, ◌++◌, [], ◌∷◌, None, Some, Err, IfOk, IfSome, OnOk, OnErr, length, option_copied};
 ghost use Rattle.form_names.specs.Letters.{noted};
 ghost use Rattle.form_names.specs.Names.{lookup, kind_at, dimension_of, dimension_at, elements_at, name_at, declare, declare_set, has_elements, entry_of, IsKind, IsDimension, AreElements, IsLawful};
+ghost use Rattle.form_names.specs.Restriction.{restriction_at};
 
-use crate::{Dimension, Elements, Facts, Kind};
+use crate::{Dimension, Elements, Facts, Kind, Restriction};
 use form_base::{Id, Name};
 use indexmap::IndexMap;
 use std::alloc::{AllocError, Global};
 use std::marker::Model;
+
+/// The least exponent that any symbol may have, and the most.
+const LEAST_EXPONENT: i32 = -1_000_000_000;
+
+const MOST_EXPONENT: i32 = 1_000_000_000;
 
 /// Why a name wasn't declared.
 #[derive(Drop)]
@@ -95,6 +101,7 @@ impl Names {
         ensures declared { IfOk result (λ id. declare_set self.old name elements ≡ Some (id, self.new)) }
         ensures redeclared { result ≡ Err DeclareError.Redeclared → declare_set self.old name elements ≡ None }
         ensures unchanged { OnErr result (self.new ≡ self.old) }
+        ensures memory { result ≡ Err DeclareError.Memory → lookup self.old name ≡ None }
     {
         match self.lookup(name.as_str()) {
             Some(id) if self.is_set_of(id, &elements) => Ok(id),
@@ -196,6 +203,20 @@ impl Names {
     {
         match self.kind(id) {
             Kind::Index(dimension) => Some(dimension),
+            _ => None,
+        }
+    }
+
+    /// The exponents that a symbol may have, none for another name.
+    pub fn restriction(&self, id: Id) -> Option<Restriction>
+        requires { id < length self.now }
+        ensures { result ≡ restriction_at self.now id }
+    {
+        match self.kind(id) {
+            Kind::Symbol => Some(Restriction {
+                least: LEAST_EXPONENT,
+                most: MOST_EXPONENT,
+            }),
             _ => None,
         }
     }

@@ -86,7 +86,7 @@ own_product m lawful e = alone_made m m.term (no_zeros m.term.others.deltas e) (
 -- ---- a product is a term, and its deltas are neither 1 nor 0
 
 -- a term is within the limits
-record IsWithin (u t : Term) : Type 0 where
+pub record IsWithin (u t : Term) : Type 0 where
   pub same : u ≡ t
   pub powers : are_in_range u.symbols ≡ true
   pub dots : are_dots_in_range u.others.dots ≡ true
@@ -96,7 +96,7 @@ record IsWithin (u t : Term) : Type 0 where
 same_term : (r : Result Term Cause) (u t : Term) → r ≡ Ok u → r ≡ Ok t → u ≡ t
 same_term r u t e f = cc
 
-within_from : (u t : Term) → limited u ≡ Ok t → IsWithin u t
+pub within_from : (u t : Term) → limited u ≡ Ok t → IsWithin u t
 within_from u t e = step (are_in_range u.symbols && are_dots_in_range u.others.dots) (nat_le (size u) largest_size && nat_le (depth u) largest_depth) refl refl e
   where
     step : (a b : Bool) → (are_in_range u.symbols && are_dots_in_range u.others.dots) ≡ a → (nat_le (size u) largest_size && nat_le (depth u) largest_depth) ≡ b
@@ -174,7 +174,7 @@ module _ (ts : List Term) where
         })
 
 -- what a product is made of
-record IsMadeOf (ms : List Monomial) (m : Monomial) : Type 0 where
+pub record IsMadeOf (ms : List Monomial) (m : Monomial) : Type 0 where
   pub there : vanishes (map (λ (x : Monomial). x.term) ms) ≡ false
   pub limits : limited (term_product (map (λ (x : Monomial). x.term) ms)) ≡ Ok m.term
 
@@ -183,7 +183,7 @@ term_in t (Ok (Some m)) = m.term
 term_in t (Ok None) = t
 term_in t (Err cause) = t
 
-made_of : (ms : List Monomial) (m : Monomial) → product ms ≡ Ok (Some m) → IsMadeOf ms m
+pub made_of : (ms : List Monomial) (m : Monomial) → product ms ≡ Ok (Some m) → IsMadeOf ms m
 unfolding product
 made_of ms m e =
     step (vanishes (map (λ (x : Monomial). x.term) ms)) (option_map (turned (is_turned (map (λ (x : Monomial). x.term) ms))) (coefficient_of ms)) (limited (term_product (map (λ (x : Monomial). x.term) ms))) refl refl e

@@ -199,7 +199,7 @@ pub one_is_lowest : IsLowest (whole (pos 1))
 unfolding gcd divisor_from
 one_is_lowest = record { is_over_some = omega arith; is_coprime = refl; is_small_above = omega arith; is_small_below = omega arith }
 
-none_lawful : IsTerm one
+pub none_lawful : IsTerm one
 none_lawful = symbols_lawful [] (tt, All-nil IsPresent) (All-nil IsInRange) (omega arith)
 
 -- powers of symbols

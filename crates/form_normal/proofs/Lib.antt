@@ -16,4 +16,5 @@ pub mod Sizes
 pub mod Sums
 pub mod Swapped
 pub mod Together
+pub mod Units
 pub mod Words

@@ -4,7 +4,7 @@ use Rattle.std.specs.List.{range_with_len, list_all, list_any}
 use Rattle.form_base.specs.declared.cause.Cause.{Cause}
 use Rattle.form_base.specs.declared.cause.Cause.TheVariants.{Overflow, PowerRange, TermSize}
 use Rattle.form_frac.specs.Fraction.{Fraction, whole, multiply, negate}
-use Rattle.form_term.specs.Factor.{function_factor, non_commuting_factor}
+use Rattle.form_term.specs.Factor.{imaginary_factor, function_factor, non_commuting_factor}
 use Rattle.form_term.specs.Term.{Term, Others, Call, one, symbol_power, exponent_of, reach_of, powers_of, imaginary_exponent, component_order, delta_order, call_order, largest_exponent, largest_size, largest_depth, size, depth}
 use Rattle.form_term.specs.declared.power.Power.{Power}
 use Rattle.form_term.specs.declared.power.DotPower.{DotPower}
@@ -124,6 +124,10 @@ number_alone number = record { coefficient = number; term = one }
 -- a power of a symbol as a factor
 abbrev pub power_alone : Power → Monomial
 power_alone power = record { coefficient = whole (pos 1); term = symbol_power power.symbol power.exponent }
+
+-- `i_` as a factor
+abbrev pub imaginary_alone : Monomial
+imaginary_alone = record { coefficient = whole (pos 1); term = imaginary_factor }
 
 -- a commuting and a non-commuting function as a factor
 abbrev pub function_alone : Call → Monomial

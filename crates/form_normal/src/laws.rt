@@ -1,9 +1,9 @@
 //! Laws of the definitions, each the contract of a function that does nothing.
 
-ghost use Rattle.std.specs.Prelude.{◌≡◌, ◌≤◌, ◌<◌, ℕ, List, [], ◌∷◌, Some, Ok, All, nat_abs};
+ghost use Rattle.std.specs.Prelude.{◌≡◌, ◌≤◌, ◌<◌, ℕ, pos, List, [], ◌∷◌, ◌++◌, flat_map, Some, None, Ok, All, nat_abs};
 ghost use Rattle.std.specs.List.{AllByRecursion};
 ghost use Rattle.std.specs.List.Sorted.{IsPermutation};
-ghost use Rattle.form_frac.specs.Fraction.{Fraction, IsLowest};
+ghost use Rattle.form_frac.specs.Fraction.{Fraction, IsLowest, negate, whole};
 ghost use Rattle.form_term.specs.Monomial.{unit};
 ghost use Rattle.form_term.specs.Named.{Places, IsSummand};
 ghost use Rattle.form_term.specs.declared.monomial.Monomial.{Monomial};
@@ -16,7 +16,7 @@ ghost use Rattle.form_term.specs.declared.power.DotPower.{DotPower};
 ghost use Rattle.form_normal.specs.Factors.{AreEachLawful};
 ghost use Rattle.form_normal.specs.Lists.{in_order, dots_product, exponent_at};
 ghost use Rattle.form_normal.specs.Recordable.{IsRecordable, IsFactor};
-ghost use Rattle.form_normal.specs.Product.{exponent_sum, symbols_product, term_product, product, product_of, number_alone, power_alone, IsTooLarge};
+ghost use Rattle.form_normal.specs.Product.{exponent_sum, symbols_product, term_product, product, product_of, number_alone, power_alone, imaginary_alone, IsTooLarge};
 
 /// The exponent of each symbol in a product is the sum of those in its factors, and only the product has these.
 pub fn exponents_of_products()
@@ -42,6 +42,23 @@ pub fn lists_in_order()
 /// 1 times a factor is the product of that factor alone.
 pub fn products_of_one()
     ensures { (m : Monomial) → IsLowest m.coefficient → IsTerm m.term → product_of unit m ≡ product (m ∷ []) }
+{}
+
+/// A factor times 1 is that product too, and a factor that is 0 alone makes a product 0, whatever the others are.
+pub fn products_with_one_and_zero()
+    ensures one { (m : Monomial) → IsLowest m.coefficient → IsTerm m.term → product_of m unit ≡ product (m ∷ []) }
+    ensures zero { (front rest : List Monomial) (m : Monomial) → product (m ∷ []) ≡ Ok None → product (front ++ m ∷ rest) ≡ Ok None }
+{}
+
+/// `i_*i_` is -1.
+pub fn products_of_imaginary_units()
+    ensures { product_of imaginary_alone imaginary_alone ≡ Ok (Some (number_alone (negate (whole (pos 1))))) }
+{}
+
+/// The word of a product is those of its factors, one behind the other, the left one's first.
+pub fn words_of_products()
+    ensures { (factors : List Monomial) (m : Monomial) → product factors ≡ Ok (Some m) →
+        m.term.others.word ≡ flat_map (λ f. f.term.others.word) factors }
 {}
 
 /// 1 times a factor that is a number or a symbol's power is that factor.

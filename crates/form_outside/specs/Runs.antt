@@ -1,9 +1,13 @@
 -- The runs of a store, by number. A run that was removed has neither length nor bytes.
-use Rattle.std.specs.Prelude.{◌≡◌, ℕ, ◌-◌, List, [], ◌++◌, Option, Some, None, length, take, drop, min, slice_get, slice_set, IsSome, unwrap_or, option_map, All}
+use Rattle.std.specs.Prelude.{◌≡◌, ℕ, ◌-◌, List, [], ◌++◌, Option, Some, None, map, length, take, drop, min, slice_get, slice_set, IsSome, unwrap_or, option_map, All}
 
 -- the bytes of each run
 abbrev pub Contents : Type 0
 Contents = List (Option (List ℕ))
+
+-- the lengths of runs that have these bytes
+abbrev pub lengths_in : Contents → List (Option ℕ)
+lengths_in runs = map (option_map length) runs
 
 -- a run that was made and not removed
 abbrev pub IsLive : List (Option ℕ) → ℕ → Type 0

@@ -1,5 +1,5 @@
 ghost use Rattle.std.specs.Prelude.{◌≡◌, ◌≢◌, ℕ, ◌+◌, ◌≤◌, ◌<◌, ◌^◌, List, [], ◌∷◌, ◌++◌, Option, Some, None, length, map, option_map, slice_set, IfOk, IfSome, OnOk, OnErr};
-ghost use Rattle.form_outside.specs.Runs.{IsLive, length_of, Contents, KeepsOthers, Appended, IsRead};
+ghost use Rattle.form_outside.specs.Runs.{IsLive, length_of, lengths_in, Contents, KeepsOthers, Appended, IsRead};
 ghost use Rattle.form_outside.specs.Faults.{HasRisen};
 
 use std::alloc::{AllocError, AllocFailed, Global};
@@ -93,4 +93,7 @@ pub trait Store {
         ensures failed { result ≡ Err StoreErr.Failed → HasRisen (faults self.old) (faults self.new) }
         ensures not_risen { result ≢ Err StoreErr.Failed → faults self.new ≡ faults self.old }
         ensures never_falls { faults self.old ≤ faults self.new };
+
+    /// Where it tells the bytes of its runs, their lengths are those of the bytes.
+    ghost same_lengths: { (store : Self) → IfSome (contents store) (λ runs. lengths store ≡ lengths_in runs) };
 }

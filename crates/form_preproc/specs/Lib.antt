@@ -2,10 +2,12 @@ pub mod Answer
 pub mod Answers
 pub mod Block
 pub mod Braces
+pub mod Brackets
 pub mod Branches
 pub mod Bytes
 pub mod Causes
 pub mod Expansion
+pub mod Forms
 pub mod Frames
 pub mod Instruction
 pub mod Kept
@@ -13,6 +15,7 @@ pub mod Journal
 pub mod Key
 pub mod Links
 pub mod Machine
+pub mod Nests
 pub mod Parts
 pub mod Passing
 pub mod Places

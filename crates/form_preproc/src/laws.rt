@@ -1,19 +1,27 @@
 //! Laws of the definitions, each the contract of a function that does nothing.
 
-ghost use Rattle.std.specs.Prelude.{◌≡◌, ◌==◌, ◌&&◌, ◌||◌, true, false, ℕ, ℤ, List, [], ◌∷◌, ◌++◌, map, Some, None, Ok, Err};
+ghost use Rattle.std.specs.Prelude.{◌≡◌, ◌≤◌, ◌↔◌, ◌==◌, ◌&&◌, ◌||◌, true, false, ℕ, ℤ, List, [], ◌∷◌, ◌++◌, length, map, option_map, Some, None, Ok, Err};
 ghost use Rattle.std.specs.Fmt.{signed_decimal};
 ghost use Rattle.std.specs.List.{list_any, list_all, slice_split};
 ghost use Rattle.form_base.specs.declared.cause.Cause.TheVariants.{BadInstruction, CalcRange, Unclosed, UnknownVar};
 ghost use Rattle.form_calc.specs.Calculation.{value_of};
 ghost use Rattle.form_preproc.specs.Block.{Line, key_in, misnested, to_closer, to_end};
 ghost use Rattle.form_preproc.specs.Braces.{calculated, is_calculable};
-ghost use Rattle.form_preproc.specs.Bytes.{is_digit, trimmed};
+ghost use Rattle.form_preproc.specs.Bytes.{is_digit, is_name, trimmed};
 ghost use Rattle.form_outside.specs.Texts.{Texts};
-ghost use Rattle.form_preproc.specs.Expansion.{Expansion, IsExpanded};
-ghost use Rattle.form_preproc.specs.Parts.{parted};
-ghost use Rattle.form_preproc.specs.declared.parts.Parting.TheVariants.{Commas, CommasOrBars};
+ghost use Rattle.form_calc.specs.Stack.{oldest};
+ghost use Rattle.form_preproc.specs.Brackets.{IsBracketed, IsOnePart};
+ghost use Rattle.form_preproc.specs.Expansion.{Expansion, IsExpanded, State, Place, Does, goes, calling, turning};
+ghost use Rattle.form_preproc.specs.Forms.{IsAsked, IsDefinition, IsHead};
+ghost use Rattle.form_preproc.specs.Nests.{AreNested, IsMisfit, IsUnended};
+ghost use Rattle.form_preproc.specs.Instruction.{asked_name, definition, head_of};
+ghost use Rattle.form_preproc.specs.Parts.{parted, is_opening, is_closing};
+ghost use Rattle.form_preproc.specs.declared.instruction.Head.{Head};
+ghost use Rattle.form_preproc.specs.declared.parts.Parting.{Parting};
+ghost use Rattle.form_preproc.specs.declared.parts.Parting.TheVariants.{Arguments, Commas, CommasOrBars};
+ghost use Rattle.form_preproc.specs.declared.turns.Turns.{Turns};
 ghost use Rattle.form_preproc.specs.Putting.{and_then, put_in, unless_long};
-ghost use Rattle.form_preproc.specs.Variables.{Values, newest};
+ghost use Rattle.form_preproc.specs.Variables.{Values, newest, heights_of, height_of};
 
 /// Each file comes to something, and to one thing only: whatever its texts are, its expansion ends.
 pub fn one_expansion()
@@ -70,6 +78,41 @@ pub fn braces_calculated()
 pub fn lists_parted()
     ensures commas { (text : List ℕ) → parted Commas text ≡ Some (map trimmed (slice_split (λ c. c == 44) text)) }
     ensures bars { (text : List ℕ) → parted CommasOrBars text ≡ Some (map trimmed (slice_split (λ c. (c == 44) || (c == 124)) text)) }
+{}
+
+/// The arguments of a call: what stands between commas outside of brackets, without the blanks at both ends. A bracket that closes
+/// none that is open, and one that isn't closed, are none.
+pub fn arguments_parted()
+    ensures last { (text : List ℕ) → IsOnePart text → parted Arguments text ≡ Some (trimmed text ∷ []) }
+    ensures first { (text rest : List ℕ) → IsOnePart text → parted Arguments (text ++ 44 ∷ rest) ≡ option_map (λ parts. trimmed text ∷ parts) (parted Arguments rest) }
+    ensures stray { (text rest : List ℕ) (c : ℕ) → IsOnePart text → is_closing Arguments c ≡ true → parted Arguments (text ++ c ∷ rest) ≡ None }
+    ensures unclosed { (text held : List ℕ) (c : ℕ) → IsOnePart text → is_opening Arguments c ≡ true → IsBracketed held → parted Arguments (text ++ c ∷ held) ≡ None }
+{}
+
+/// What is written behind the keyword of an instruction is read exactly where it is written so: a name and a text in quotes, a name
+/// with parts in parentheses or none, a name with its quotes or without.
+pub fn instructions_as_written()
+    ensures definitions { (text name value : List ℕ) → (definition text ≡ Some (name, value)) ↔ IsDefinition text name value }
+    ensures heads { (parting : Parting) (text : List ℕ) (h : Head) → (head_of parting text ≡ Some h) ↔ IsHead parting text h }
+    ensures asked { (text name : List ℕ) → (asked_name text ≡ Some name) ↔ (is_name name ≡ true) × IsAsked name text }
+{}
+
+/// Behind a call no variable has more values than before it, and behind a loop neither has the loop's; those that are left are
+/// those that stood there before.
+pub fn heights_behind_calls_and_loops()
+    ensures calls { (texts : Texts) (depth : ℕ) (s after : State) (place : Place) (head : Head) → Does texts depth (calling texts depth s place head) (goes after) →
+        (name : List ℕ) → heights_of after.values name ≤ heights_of s.values name }
+    ensures turns { (texts : Texts) (depth : ℕ) (s after : State) (place : Place) (name : List ℕ) (turns : Turns) (body : List Line) →
+        Does texts depth (turning s place name turns body) (goes after) → height_of after.values name ≤ height_of s.values name }
+    ensures stood { (new old : List (List ℕ)) → oldest (length old) (new ++ old) ≡ old }
+{}
+
+/// The lines of a text are well nested exactly where they are a tree of blocks. Else what is told is the first line that fits into
+/// none, or the innermost one that begins a block without an end.
+pub fn trees_of_blocks()
+    ensures trees { (lines : List Line) → (misnested key_in (λ line. line.spot.line) [] lines ≡ None) ↔ AreNested key_in 0 lines }
+    ensures misfits { (lines : List Line) (n : ℕ) → misnested key_in (λ line. line.spot.line) [] lines ≡ Some (BadInstruction, n) → IsMisfit key_in (λ line. line.spot.line) lines n }
+    ensures unended { (lines : List Line) (n : ℕ) → misnested key_in (λ line. line.spot.line) [] lines ≡ Some (Unclosed, n) → IsUnended key_in (λ line. line.spot.line) lines n }
 {}
 
 /// Where a block ends, or its next part begins: lines that nest among themselves, as those of one of its parts, are

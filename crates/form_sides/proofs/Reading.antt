@@ -14,12 +14,12 @@ use Rattle.form_expand.specs.Left.{row, row_behind}
 use Rattle.form_expand.specs.Listing.{Listing, nothing, limited, followed, pairs, powers, signed}
 use Rattle.form_expand.specs.Meanings.{Meanings}
 use Rattle.form_expand.specs.Readers.{EndsProduct, IsReadFactor, in_product, is_minus_link, is_minus_piece, product_part}
-use Rattle.form_expand.specs.Reading.{begins_product, fed, fresh, in_sum, list_of_pieces, read_from}
-use Rattle.form_expand.proofs.Behind.{limited_pieces, pieces_of_none, read_ends}
+use Rattle.form_expand.specs.Reading.{begins_product, fed, fresh, in_sum, link_of_piece, list_of_pieces, read_from}
+use Rattle.form_expand.proofs.Behind.{goes_on, limited_pieces, pieces_of_none, read_ends, read_first, read_further}
 use Rattle.form_expand.proofs.Called.{piece_alone}
 use Rattle.form_expand.proofs.Listings.{followed_assoc, followed_last, followed_nothing, limited_followed_last, limited_powers}
-use Rattle.form_expand.proofs.Parenthesized.{joined_same, read_ended, read_first}
-use Rattle.form_expand.proofs.Products.{row_push}
+use Rattle.form_expand.proofs.Parenthesized.{read_ended}
+use Rattle.form_expand.proofs.Rows.{row_push}
 use Rattle.form_expand.proofs.Streamed.{signed_plus}
 use Rattle.form_gathered.specs.Joined.{IsShare}
 use Rattle.form_gathered.specs.declared.joined.JoinedTerm.{JoinedTerm}
@@ -77,8 +77,8 @@ module _ (max : ℕ) (all : Meanings) where
     later = h.later ++ g.list ∷ [];
     has = subst (λ (l : Listing). HasList l ls) (sym (row_push max h.first h.later g.list)) made;
     read = λ m.
-        h.read m ∙ ap (read_from all (in_product max m (h.first ∷ h.later))) (e ∙ ap (λ (q : Piece). q ∷ behind) (sym (joined_same next further)))
-        ∙ g.read (h.first ∷ h.later) m;
+        h.read m ∙ ap (read_from all (in_product max m (h.first ∷ h.later))) e
+        ∙ read_further max all m (h.first ∷ h.later) next behind (goes_on (link_of_piece next) further) ∙ g.read (h.first ∷ h.later) m;
   }
 
   pub front_part : (piece : Piece) (more rest : List Piece) (js ks : List JoinedTerm) (m : Bool) → is_minus_piece piece ≡ m → EndsProduct rest

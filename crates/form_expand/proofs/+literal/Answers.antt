@@ -12,9 +12,9 @@ use Rattle.form_expand.specs.Singles.{list_of_call}
 use Rattle.form_expand.specs.Walks.{all_of}
 use Rattle.form_expand.proofs.Called.{index_read, vector_read, field_read, expression_ended, expression_read}
 use Rattle.form_expand.proofs.LiteralCalls.{none_argued, one_argued, all_argued, argument_read, sum_argued, collected_kept}
-use Rattle.form_expand.proofs.Literals.{IsReadTo, first_taken, next_taken, literal_read, taken_behind, taken_wild, call_taken_from, within_taken, ends_within}
+use Rattle.form_expand.proofs.Literals.{IsReadTo, first_taken, next_taken, literal_read, taken_behind, taken_wild, call_taken_from, within_taken}
 use Rattle.form_expand.proofs.LiteralSums.{sum_more, sum_done, sum_alone}
-use Rattle.form_expand.proofs.Parenthesized.{ends_here, ends_empty, drop_next}
+use Rattle.form_expand.proofs.Parenthesized.{ends_here, ends_empty, ends_within, drop_next}
 use Rattle.form_expand.proofs.+literal.Goals as goal
 
 pub literal::read_literal-loop-piece-init : goal.literal::read_literal-loop-piece-init

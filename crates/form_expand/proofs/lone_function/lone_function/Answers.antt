@@ -1,7 +1,7 @@
 use Rattle.std.proofs.Common.{◌≡◌, ◌≤◌, true, length, arith, rules}
 use Rattle.form_tree.specs.declared.tree.Link.TheVariants as links
 use Rattle.form_tree.specs.declared.tree.Piece.TheVariants as pieces
-use Rattle.form_expand.proofs.Literals.{ends_within}
+use Rattle.form_expand.proofs.Parenthesized.{ends_within}
 use Rattle.form_expand.proofs.LoneFunctions.{lone_read, none_behind}
 use Rattle.form_expand.proofs.lone_function.lone_function.Goals as goal
 

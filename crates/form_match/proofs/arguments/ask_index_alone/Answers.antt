@@ -1,9 +1,9 @@
 use Rattle.std.proofs.Common.{sym, ◌∙◌}
-use Rattle.form_match.specs.Attempts.{any_asked}
+use Rattle.form_match.specs.Parts.{any_asked}
 use Rattle.form_match.specs.Matching.{asked_index}
 use Rattle.form_tree.specs.declared.pattern.IndexName.TheVariants as an_index
 use Rattle.form_tree.specs.declared.pattern.Sort.TheVariants as sorts
-use Rattle.form_match.proofs.Attempting.{any_index, no_index, not_told, told_all}
+use Rattle.form_match.proofs.Asked.{any_index, no_index, not_told, told_all}
 use Rattle.form_match.proofs.arguments.ask_index_alone.Goals as goal
 
 pub returns-in-Some-clause-told : goal.returns-in-Some-clause-told

@@ -1,8 +1,8 @@
 use Rattle.std.proofs.Common.{sym, ◌∙◌}
-use Rattle.form_match.specs.Attempts.{any_asked}
+use Rattle.form_match.specs.Parts.{any_asked}
 use Rattle.form_match.specs.Matching.{asked_expression}
 use Rattle.form_tree.specs.declared.pattern.Sort.TheVariants as sorts
-use Rattle.form_match.proofs.Attempting.{any_sum, no_sum, not_told, told_all}
+use Rattle.form_match.proofs.Asked.{any_sum, no_sum, not_told, told_all}
 use Rattle.form_match.proofs.arguments.ask_sum.Goals as goal
 
 pub returns-then-not-begins_sum-clause-told : goal.returns-then-not-begins_sum-clause-told

@@ -1,8 +1,8 @@
 use Rattle.std.proofs.Common.{sym, ◌∙◌}
-use Rattle.form_match.specs.Attempts.{any_asked}
+use Rattle.form_match.specs.Parts.{any_asked}
 use Rattle.form_match.specs.Matching.{asked_vector}
 use Rattle.form_tree.specs.declared.pattern.Sort.TheVariants as sorts
-use Rattle.form_match.proofs.Attempting.{any_vector, no_vector, not_told, told_all}
+use Rattle.form_match.proofs.Asked.{any_vector, no_vector, not_told, told_all}
 use Rattle.form_match.proofs.arguments.ask_vector_alone.Goals as goal
 
 pub returns-in-Some-clause-told : goal.returns-in-Some-clause-told

@@ -1,6 +1,6 @@
 use Rattle.std.proofs.Common.{[], ◌∷◌, ◌++◌, length, sym, ap, ◌∙◌, arith, eqb-true, length-append, vec_len}
 use Rattle.std.proofs.lemmas.Bool.{eqb-false}
-use Rattle.form_match.proofs.Somewhere.{emptied, not_emptied}
+use Rattle.form_match.proofs.Lengths.{emptied, not_emptied}
 use Rattle.form_match.proofs.arguments.only_one.Goals as goal
 
 pub returns-in_default : goal.returns-in_default

@@ -24,8 +24,8 @@ from_factors-requires c =
     let others = c.leave_rest.new.others in
     let is : term c.powers_left-powers.result.items others ≡ left_of t us =
     ap (λ (ps : List Power). term ps others) c.powers_left-powers.ensures
-    ∙ left_of_all t us c.into_factors-powers.result.0.items c.into_factors-powers.result.1 _ others c.leave_functions.new.functions.items c.into_factors-powers.ensures.is c.others.view_is
-    c.leave_functions.ensures c.in_ok-leave_rest.ensures in
+    ∙ left_of_all t us c.into_factors-powers.result.0.items c.into_factors-powers.result.1 _ others c.leave.new.things.items c.into_factors-powers.ensures.is c.others.view_is
+    c.leave.ensures c.in_ok-leave_rest.ensures in
     subst IsTerm (sym is) (left_lawful t us c.into_factors-powers.ensures.lawful c.requires)
 
 pub returns : goal.returns
@@ -35,6 +35,6 @@ returns c =
     let others = c.leave_rest.new.others in
     let is : term c.powers_left-powers.result.items others ≡ left_of t us =
     ap (λ (ps : List Power). term ps others) c.powers_left-powers.ensures
-    ∙ left_of_all t us c.into_factors-powers.result.0.items c.into_factors-powers.result.1 _ others c.leave_functions.new.functions.items c.into_factors-powers.ensures.is c.others.view_is
-    c.leave_functions.ensures c.in_ok-leave_rest.ensures in
+    ∙ left_of_all t us c.into_factors-powers.result.0.items c.into_factors-powers.result.1 _ others c.leave.new.things.items c.into_factors-powers.ensures.is c.others.view_is
+    c.leave.ensures c.in_ok-leave_rest.ensures in
     IfOk-weaker c.from_factors.result (λ (u : Term). u ≡ term c.powers_left-powers.result.items others) (λ (u : Term). u ≡ left_of t us) (λ u e. e ∙ is) c.from_factors.ensures

@@ -3,7 +3,8 @@ use Rattle.std.proofs.lemmas.List.{length-append}
 use Rattle.std.proofs.lemmas.List.Elements.{All-push}
 use Rattle.form_outside.specs.Runs.{Contents, HasNoLiveRun}
 use Rattle.form_mem.specs.declared.store.MemStore.{MemStore}
-use Rattle.form_mem.specs.Store.{runs_of, lengths_in, lengths_of}
+use Rattle.form_outside.specs.Runs.{lengths_in}
+use Rattle.form_mem.specs.Store.{runs_of, lengths_of}
 use Rattle.form_mem.proofs.stores.fresh_stores.Goals as goal
 
 -- a store without runs has no live one

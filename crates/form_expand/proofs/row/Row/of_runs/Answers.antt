@@ -1,38 +1,36 @@
-use Rattle.std.proofs.Common.{◌≡◌, ℕ, List, [], ◌∷◌, append-nil, map, sym, ap, ◌∙◌}
-use Rattle.std.proofs.lemmas.Result.{IfOk-weaker}
-use Rattle.form_base.specs.declared.cause.Cause.TheVariants.{ExpandLimit}
-use Rattle.form_expand.specs.declared.row.Begun.{Begun}
-use Rattle.form_expand.specs.Kept.{listing}
-use Rattle.form_expand.specs.Left.{row}
-use Rattle.form_expand.specs.Listing.{Listing, single, limited}
-use Rattle.form_expand.specs.Parts.{part_list}
-use Rattle.form_expand.specs.Runs.{begun_row, lists_of}
-use Rattle.form_expand.proofs.Listings.{limited_refusal}
-use Rattle.form_expand.proofs.RowParts.{no_row, row_within}
+use Rattle.std.proofs.Common.{◌≡◌, List, [], ◌∷◌, ◌++◌, rules, sym, ap, subst, ◌∙◌, arith}
+use Rattle.std.specs.Vec.Iter.{into_iter_items}
+use Rattle.std.proofs.lemmas.List.{nil_from_length}
+use Rattle.form_expand.specs.declared.row.Run.{Run}
+use Rattle.form_expand.specs.Factors.{IsSameRow, factor_lists}
+use Rattle.form_expand.specs.Listing.{single}
+use Rattle.form_expand.specs.Runs.{lists_of, run_lists}
+use Rattle.form_expand.proofs.Factored.{same_behind}
+use Rattle.form_expand.proofs.Filling.{runs_all, runs_more}
 use Rattle.form_expand.proofs.row.Row.of_runs.Goals as goal
 
-pub returns-then-limit-eq0 : goal.returns-then-limit-eq0
-returns-then-limit-eq0 c =
-    let lists = lists_of c.args.limit c.args.runs.items in
-    c.of_whole.ensures
-    ∙ ap (limited c.args.limit) c.refused.ensures
-    ∙ limited_refusal c.args.limit ExpandLimit
-    ∙ sym (no_row c.args.first lists)
-    ∙ ap (λ (max : ℕ). row max (single c.args.first ∷ lists)) (sym c.if-limit-eq0.true)
-
-pub returns-in-Goes : goal.returns-in-Goes
-returns-in-Goes c =
+pub loop-run-init : goal.loop-run-init
+loop-run-init c =
     let max = c.args.limit in
-    IfOk-weaker c.of_begun.result _ (λ made. made ≡ row max (single c.args.first ∷ lists_of max c.args.runs.items))
-    (λ made is.
-    is
-    ∙ ap (λ (ls : List Listing). row max (single c.in-Goes.front ∷ ls)) (sym (append-nil (map (part_list max) c.in-Goes.parts.items)))
-    ∙ ap (λ (b : Begun). begun_row max b []) (sym c.in-Goes.is)
-    ∙ c.in_ok-start.ensures)
-    c.of_begun.ensures
+    let items : into_iter_items c.into_iter-run-iterator.result ≡ c.args.runs.items = search rules in
+    let now = factor_lists max c.in_ok-factors.factors in
+    let left = lists_of max (into_iter_items c.into_iter-run-iterator.result) in
+    subst (λ (rs : List Run). IsSameRow max (single c.args.first ∷ lists_of max rs) (now ++ left)) items
+    (same_behind max (single c.args.first ∷ []) now left c.in_ok-factors.ensures)
 
-pub returns-in-Ends : goal.returns-in-Ends
-returns-in-Ends c =
+pub loop-run-preserved : goal.loop-run-preserved
+loop-run-preserved c =
     let max = c.args.limit in
-    let is : listing c.in-Ends.whole ≡ row max (single c.args.first ∷ lists_of max c.args.runs.items) = ap (λ (b : Begun). begun_row max b []) (sym c.in-Ends.is) ∙ c.in_ok-start.ensures in
-    c.of_whole-in-Ends.ensures ∙ ap (limited max) is ∙ row_within max (single c.args.first) (lists_of max c.args.runs.items)
+    let left = into_iter_items c.next.new.self in
+    let run = c.in-Some.run' in
+    let next : into_iter_items c.loop-run.run-iterator ≡ run ∷ left = c.in-Some.ensures.steps.0 in
+    runs_more max (single c.args.first ∷ lists_of max c.args.runs.items) (factor_lists max c.loop-run.factors) (run_lists max run) (lists_of max (into_iter_items c.loop-run.run-iterator)) (lists_of max left) (factor_lists max c.put_run.new.factors)
+    c.loop-run.invariant (ap (lists_of max) next) c.in_ok-put_run.ensures
+
+pub returns : goal.returns
+returns c =
+    let max = c.args.limit in
+    let items = into_iter_items c.loop-run.run-iterator in
+    let none : items ≡ [] = nil_from_length items (omega (arith, c.in-None.ensures.steps.0)) in
+    c.in_ok-product.ensures
+    ∙ sym (runs_all max (single c.args.first ∷ lists_of max c.args.runs.items) (factor_lists max c.loop-run.factors) (lists_of max items) c.loop-run.invariant (ap (lists_of max) none))

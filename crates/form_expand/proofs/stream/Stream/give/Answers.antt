@@ -5,14 +5,14 @@ use Rattle.form_expand.specs.Streams.{stream_left, stream_before}
 use Rattle.form_expand.proofs.Streamed.{stream_taken, stream_over}
 use Rattle.form_expand.proofs.stream.Stream.give.Goals as goal
 
-pub returns-then-self : goal.returns-then-self
+pub returns-then-self-clause-next : goal.returns-then-self-clause-next
 unfolding stream_before
-returns-then-self c =
+returns-then-self-clause-next c =
     let s = c.args.self.now in
-    stream_over s.limit s.given s.is_minus (list_of_pieces s.limit s.stored.now s.rest.now) c.args.term (product_left s.limit s.product) c.if-self.true
+    stream_over s.scope.limit s.given s.is_minus (list_of_pieces s.scope.limit s.scope.names.now s.rest.now) c.args.term (product_left s.scope.limit s.product) c.if-self.true
 
-pub returns : goal.returns
+pub returns-clause-next : goal.returns-clause-next
 unfolding stream_before stream_left
-returns c =
+returns-clause-next c =
     let s = c.args.self.now in
-    rw c.signed.ensures (stream_taken s.limit s.given s.is_minus (list_of_pieces s.limit s.stored.now s.rest.now) c.args.term (product_left s.limit s.product) (omega arith))
+    rw c.signed.ensures (stream_taken s.scope.limit s.given s.is_minus (list_of_pieces s.scope.limit s.scope.names.now s.rest.now) c.args.term (product_left s.scope.limit s.product) (omega arith))

@@ -1,6 +1,6 @@
 use Rattle.form_expand.specs.Products.{product_left}
 use Rattle.form_expand.specs.Streams.{stream_left, stream_before}
-use Rattle.form_expand.proofs.Streamed.{stream_literal}
+use Rattle.form_expand.proofs.Streamed.{stream_term}
 use Rattle.form_expand.proofs.stream.Stream.read_term.Goals as goal
 
 pub returns-clause-found : goal.returns-clause-found
@@ -9,4 +9,4 @@ returns-clause-found c =
     let s = c.args.self.now in
     let literal = c.in-Some.literal in
     let h = rw c.in-Some.is at c.in_ok-read.ensures in
-    stream_literal s.limit s.given s.stored.now s.rest.now c.in-Some.rest.now literal s.is_minus (product_left s.limit s.product) h c.requires.done
+    stream_term s.scope.limit s.given s.scope.names.now s.rest.now c.in-Some.rest.now literal.is_minus s.is_minus literal.term (product_left s.scope.limit s.product) h.list c.requires.done

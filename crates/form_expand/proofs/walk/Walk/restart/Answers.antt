@@ -1,8 +1,5 @@
 use Rattle.std.proofs.Common.{◌≡◌, ◌-◌, refl, arith}
 use Rattle.form_expand.proofs.walk.Walk.restart.Goals as goal
 
-pub returns-clause-whole : goal.returns-clause-whole
-returns-clause-whole c = λ max. refl
-
 pub returns-clause-left : goal.returns-clause-left
 returns-clause-left c = λ max. let e : max - 0 ≡ max = omega arith in rw e refl

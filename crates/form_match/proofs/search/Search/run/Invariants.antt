@@ -1,12 +1,14 @@
+use Rattle.form_match.specs.Parts.{table_of}
+use Rattle.form_match.specs.Places.{ground_of}
+use Rattle.form_match.specs.Running.{IsRunning, ways_from, ways_left}
+use Rattle.form_match.specs.States.{first_found, reach, start}
 use Rattle.std.proofs.Common.{◌+◌, length}
-use Rattle.form_match.specs.Attempts.{table_of}
-use Rattle.form_match.specs.Matching.{outer}
-use Rattle.form_match.specs.Running.{IsRunning, way}
-use Rattle.form_match.proofs.Ending.{ways_left}
 use Rattle.form_match.proofs.search.Search.run.Given as goal
 
-abbrev pub invariant-loop-piece : goal.invariant-loop-piece
-invariant-loop-piece l = IsRunning (table_of l.outermost.fixed.now) l.pieces (outer l.outermost.term.now l.outermost.cuts.now l.outermost.is_exact) l.self.steps.items l.self.bindings l.candidate
+abbrev pub invariant-loop-at : goal.invariant-loop-at
+invariant-loop-at l =
+    IsRunning (table_of l.fixed) l.pieces (first_found (reach (table_of l.fixed) l.pieces (start (ground_of l.fn.self.terms).outer)))
+    (ground_of l.self.terms) l.self.trail.takes.items l.self.trail.bindings l.self.trail.choices.items l.at
 
-abbrev pub decreases-loop-piece : goal.decreases-loop-piece
-decreases-loop-piece l = ways_left (length l.pieces + 1) (way l.self.steps.items l.candidate)
+abbrev pub decreases-loop-at : goal.decreases-loop-at
+decreases-loop-at l = ways_from (length l.pieces) l.at + ways_left (length l.pieces) l.self.trail.choices.items

@@ -1,8 +1,0 @@
-use Rattle.form_expand.specs.Listing.{times}
-use Rattle.form_expand.proofs.chain.ChainLevel.begin.Goals as goal
-
-pub returns : goal.returns
-returns c = λ max.
-    let whole = c.restart.ensures.whole max in
-    let left = c.restart.ensures.left max in
-    λ i. record { count = c.args.self.now.count; list = whole i; opened = times c.args.left (left i) }
