@@ -1,10 +1,12 @@
 //! Laws of the definitions, each the contract of a function that does nothing.
 
-ghost use Rattle.std.specs.Prelude.{◌≡◌, ℕ, ◌⊎◌, ◌↔◌, List, Some};
+ghost use Rattle.std.specs.Prelude.{◌≡◌, ℕ, ◌⊎◌, ◌↔◌, List, ◌∷◌, Some, None};
 ghost use Rattle.form_ast.specs.declared.expr.Piece.{Piece};
-ghost use Rattle.form_ast.specs.Syntax.{Sum};
+ghost use Rattle.form_ast.specs.declared.expr.Sign.{Sign};
+ghost use Rattle.form_ast.specs.Syntax.{Sum, Product, first};
 ghost use Rattle.form_ast.specs.Lawful.{IsLawful};
 ghost use Rattle.form_grammar.specs.declared.terminal.Terminal.{Terminal};
+ghost use Rattle.form_grammar.specs.declared.terminal.Terminal.TheVariants as terminal;
 ghost use Rattle.form_grammar.specs.Grammar.{IsExpr, IsPatternText, IsPatternTextWithin, IsRightText, written_sum};
 ghost use Rattle.form_grammar.specs.Texts.{run_pattern_within};
 
@@ -33,4 +35,9 @@ pub fn one_tree()
 pub fn pattern_is_read()
     ensures { (opened : ℕ) (terminals : List Terminal) (pieces : List Piece) →
         IsPatternTextWithin opened terminals pieces ↔ (run_pattern_within opened terminals ≡ Some pieces) }
+{}
+
+/// A product with a sign is written as that sign in front of the product.
+pub fn first_signs()
+    ensures { (sign : Sign) (p : Product) → written_sum (first (Some sign) p) ≡ terminal.Sign sign ∷ written_sum (first None p) }
 {}

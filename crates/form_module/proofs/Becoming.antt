@@ -344,7 +344,7 @@ defined_found (Skip which) e = refl
 defined_found (Local id right) e = if_is_some (id == e) right
 defined_found (Print which) e = refl
 
-defines_found : (s : List Checked) (e : ℕ) → defines s e ≡ is_some (definition s e)
+pub defines_found : (s : List Checked) (e : ℕ) → defines s e ≡ is_some (definition s e)
 defines_found [] e = refl
 defines_found (t ∷ ts) e =
     ap (λ b. b || defines ts e) (defined_found t e) ∙ ap (λ b. is_some (defined_by t e) || b) (defines_found ts e) ∙ some_or (definition ts e) (defined_by t e)

@@ -15,3 +15,4 @@ pub mod Sound
 pub mod Stays
 pub mod Summed
 pub mod Taken
+pub mod Unchanged

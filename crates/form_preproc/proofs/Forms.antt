@@ -16,7 +16,7 @@ use Rattle.form_preproc.specs.Instruction.{defined_in, definition, headed, head_
 use Rattle.form_preproc.specs.declared.instruction.Head.{Head}
 use Rattle.form_preproc.specs.declared.parts.Parting.{Parting}
 
-found : {A : Type 0} (b : Bool) (x y : A) → (if b then Some x else None) ≡ Some y → (b ≡ true) × (x ≡ y)
+pub found : {A : Type 0} (b : Bool) (x y : A) → (if b then Some x else None) ≡ Some y → (b ≡ true) × (x ≡ y)
 found true x y e = (refl, same_Some x y e)
 found false x y e = absurd cc
 
@@ -25,7 +25,7 @@ found false x y e = absurd cc
 abbrev between_by : Bool → Bool → Bool → List ℕ → Option (List ℕ)
 between_by long opens closes inner = if long && (opens && closes) then Some inner else None
 
-between_written : (opening closing : ℕ) (inner : List ℕ) → between opening closing (opening ∷ (inner ++ closing ∷ [])) ≡ Some inner
+pub between_written : (opening closing : ℕ) (inner : List ℕ) → between opening closing (opening ∷ (inner ++ closing ∷ [])) ≡ Some inner
 between_written opening closing inner =
     let text : List ℕ = opening ∷ (inner ++ closing ∷ []) in
     let size : length text ≡ length inner + 2 = omega (arith, length-append inner (closing ∷ [])) in
@@ -44,7 +44,7 @@ last_behind xs some =
     sym (take-append-drop n xs)
     ∙ ap (λ (ys : List ℕ). take n xs ++ ys) (drop-cons xs n 0 (omega (arith, some)) ∙ ap (λ (ys : List ℕ). get_or xs n 0 ∷ ys) (drop_of_length-le xs {i = suc n} (omega (arith, some))))
 
-between_from : (opening closing : ℕ) (text inner : List ℕ) → between opening closing text ≡ Some inner → text ≡ opening ∷ (inner ++ closing ∷ [])
+pub between_from : (opening closing : ℕ) (text inner : List ℕ) → between opening closing text ≡ Some inner → text ≡ opening ∷ (inner ++ closing ∷ [])
 between_from opening closing [] inner e = absurd cc
 between_from opening closing (x ∷ xs) inner e =
     let text : List ℕ = x ∷ xs in
@@ -71,7 +71,7 @@ letter c e = by (is_in_range 48 57 c) (is_in_range 65 90 c) (is_in_range 97 122 
     by false false true e = refl
     by false false false e = absurd cc
 
-all_in_name : (name : List ℕ) → is_name name ≡ true → list_all is_ascii_alphanumeric name ≡ true
+pub all_in_name : (name : List ℕ) → is_name name ≡ true → list_all is_ascii_alphanumeric name ≡ true
 all_in_name [] e = absurd cc
 all_in_name (c ∷ cs) e =
     let both = and_parts (is_ascii_alphabetic c) (list_all is_ascii_alphanumeric cs) e in
@@ -84,7 +84,7 @@ front_is (c ∷ cs) rest e none =
     let more : 1 + length cs ≡ length (c ∷ cs) = omega arith in
     ap (λ (b : Bool). cond b (1 + prefix_len is_ascii_alphanumeric (cs ++ rest)) 0) both.0 ∙ ap (λ (n : ℕ). 1 + n) (front_is cs rest both.1 none) ∙ more
 
-blank_in_no_name : (c : ℕ) → is_blank c ≡ true → is_ascii_alphanumeric c ≡ false
+pub blank_in_no_name : (c : ℕ) → is_blank c ≡ true → is_ascii_alphanumeric c ≡ false
 blank_in_no_name c e = by (c == 32) (c == 9) refl refl e
   where
     by : (space tab : Bool) → (c == 32) ≡ space → (c == 9) ≡ tab → (space || tab) ≡ true → is_ascii_alphanumeric c ≡ false
@@ -97,18 +97,18 @@ blanks_in_no_name [] rest e none = none
 blanks_in_no_name (c ∷ cs) rest e none =
     ap (λ (b : Bool). cond b (1 + prefix_len is_ascii_alphanumeric (cs ++ rest)) 0) (blank_in_no_name c (and_parts (is_blank c) (list_all is_blank cs) e).0)
 
-after_all : (blanks rest : List ℕ) → AreBlanks blanks → after_blanks rest ≡ rest → after_blanks (blanks ++ rest) ≡ rest
+pub after_all : (blanks rest : List ℕ) → AreBlanks blanks → after_blanks rest ≡ rest → after_blanks (blanks ++ rest) ≡ rest
 after_all [] rest e same = same
 after_all (c ∷ cs) rest e same =
     let both = and_parts (is_blank c) (list_all is_blank cs) e in
     ap (λ (b : Bool). if b then after_blanks (cs ++ rest) else c ∷ (cs ++ rest)) both.0 ∙ after_all cs rest both.1 same
 
-record Blanks (text : List ℕ) : Type 0 where
-  blanks : List ℕ
-  are : AreBlanks blanks
-  is : text ≡ blanks ++ after_blanks text
+pub record Blanks (text : List ℕ) : Type 0 where
+  pub blanks : List ℕ
+  pub are : AreBlanks blanks
+  pub is : text ≡ blanks ++ after_blanks text
 
-blanks_of : (text : List ℕ) → Blanks text
+pub blanks_of : (text : List ℕ) → Blanks text
 blanks_of [] = record { blanks = []; are = refl; is = refl }
 blanks_of (c ∷ cs) = by (is_blank c) refl (blanks_of cs)
   where

@@ -9,8 +9,10 @@ mod Cutting
 mod Existing
 mod Forms
 mod Heights
+mod Included
 mod Leading
 mod Linking
+mod Loops
 mod Names
 mod Nests
 mod Plain

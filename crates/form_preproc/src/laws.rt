@@ -12,13 +12,14 @@ ghost use Rattle.form_outside.specs.Texts.{Texts};
 ghost use Rattle.form_calc.specs.Stack.{oldest};
 ghost use Rattle.form_preproc.specs.Brackets.{IsBracketed, IsOnePart};
 ghost use Rattle.form_preproc.specs.Expansion.{Expansion, IsExpanded, State, Place, Does, goes, calling, turning};
-ghost use Rattle.form_preproc.specs.Forms.{IsAsked, IsDefinition, IsHead};
+ghost use Rattle.form_preproc.specs.Forms.{IsAsked, IsDefinition, IsHead, IsIncluded, IsLooped};
 ghost use Rattle.form_preproc.specs.Nests.{AreNested, IsMisfit, IsUnended};
-ghost use Rattle.form_preproc.specs.Instruction.{asked_name, definition, head_of};
+ghost use Rattle.form_preproc.specs.Instruction.{asked_name, definition, head_of, included_name, looped};
 ghost use Rattle.form_preproc.specs.Parts.{parted, is_opening, is_closing};
 ghost use Rattle.form_preproc.specs.declared.instruction.Head.{Head};
 ghost use Rattle.form_preproc.specs.declared.parts.Parting.{Parting};
 ghost use Rattle.form_preproc.specs.declared.parts.Parting.TheVariants.{Arguments, Commas, CommasOrBars};
+ghost use Rattle.form_preproc.specs.declared.turns.Looped.{Looped};
 ghost use Rattle.form_preproc.specs.declared.turns.Turns.{Turns};
 ghost use Rattle.form_preproc.specs.Putting.{and_then, put_in, unless_long};
 ghost use Rattle.form_preproc.specs.Variables.{Values, newest, heights_of, height_of};
@@ -90,10 +91,13 @@ pub fn arguments_parted()
 {}
 
 /// What is written behind the keyword of an instruction is read exactly where it is written so: a name and a text in quotes, a name
-/// with parts in parentheses or none, a name with its quotes or without.
+/// with parts in parentheses or none, a name with its quotes or without, the name of a text behind a sign or
+/// none, and a loop's name, `=`, and texts in braces or numbers.
 pub fn instructions_as_written()
     ensures definitions { (text name value : List ℕ) → (definition text ≡ Some (name, value)) ↔ IsDefinition text name value }
     ensures heads { (parting : Parting) (text : List ℕ) (h : Head) → (head_of parting text ≡ Some h) ↔ IsHead parting text h }
+    ensures included { (text name : List ℕ) → (included_name text ≡ Some name) ↔ IsIncluded name text }
+    ensures loops { (text : List ℕ) (l : Looped) → (looped text ≡ Ok l) ↔ IsLooped text l }
     ensures asked { (text name : List ℕ) → (asked_name text ≡ Some name) ↔ (is_name name ≡ true) × IsAsked name text }
 {}
 

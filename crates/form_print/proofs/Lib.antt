@@ -5,3 +5,4 @@ pub mod Nested
 pub mod Passing
 pub mod Pieces
 pub mod Repeated
+pub mod Signs
